@@ -1,0 +1,74 @@
+use borrow.Author.Needs.{needs}
+use mathlib.Core.Path.{_≡_, refl}
+use Prim.Native.Nat.{_+_, _-_, _*_, _^_, _≤_, _<_}
+use lib.ListN.{getD, take, drop}
+use native.Mathlib.Omega.{arith}
+use Rattle.endian.specs.Numbers.{little, little-lt}
+use Rattle.endian.proofs.Laws.{little-more, shifted, fits}
+use Rattle.endian.proofs.little.Statement.{statement}
+use Rattle.endian.proofs.little.Tie as tie
+
+abbrev Inv-loop : tie.InvT-loop
+Inv-loop s at width n₀ i₀ n i = (i ≤ width) × (n ≡ little (take i (drop at s)))
+
+abbrev μ-loop : tie.MeasureT-loop
+μ-loop s at width n₀ i₀ n i = width - i
+
+-- the number with the next byte is that of one byte more, and fits
+more : (c : tie.In-loop Inv-loop μ-loop) → c .before .loop .n + getD (c .before .before .before .args .s .now) (c .before .before .before .args .at + c .before .loop .i) 0 * 256 ^ c .before .loop .i ≡ little (take (c .before .loop .i + 1) (drop (c .before .before .before .args .at) (c .before .before .before .args .s .now)))
+more c = little-more (c .before .before .before .args .s .now) (c .before .before .before .args .at) (c .before .loop .i) (omega arith) (c .before .loop .inv .1) refl
+
+more-fits : (c : tie.In-loop Inv-loop μ-loop) → c .before .loop .n + getD (c .before .before .before .args .s .now) (c .before .before .before .args .at + c .before .loop .i) 0 * 256 ^ c .before .loop .i < 2 ^ 64
+more-fits c =
+    rw (more c)
+    (fits little little-lt (c .before .before .before .args .s .now) (c .before .before .before .args .at) (c .before .loop .i + 1) (record { below = λ k. c .before .before .shared-slice-known .given k .fits }) (omega arith) (omega arith))
+
+loop-holds : tie.Need-loop-holds Inv-loop μ-loop
+unfolding little
+loop-holds c = search needs
+
+add-byte : tie.Need-add-byte Inv-loop μ-loop
+add-byte c = search needs
+
+byte-requires : tie.Need-byte-requires Inv-loop μ-loop
+byte-requires c κs = search needs
+
+mul-n : tie.Need-mul-n Inv-loop μ-loop
+mul-n c = search needs
+
+shl-n : tie.Need-shl-n Inv-loop μ-loop
+shl-n c = search needs
+
+add-n : tie.Need-add-n Inv-loop μ-loop
+add-n c = rw (shifted (c .before .before .loop .i) (c .byte .result) (omega arith) (c .byte .ensures .1), c .byte .ensures .0) (record { fits = more-fits (c .before) })
+
+add-i : tie.Need-add-i Inv-loop μ-loop
+add-i c = search needs
+
+loop-less : tie.Need-loop-less Inv-loop μ-loop
+loop-less c = search needs
+
+loop-again : tie.Need-loop-again Inv-loop μ-loop
+loop-again c = (search needs, rw (shifted (c .before .before .loop .i) (c .byte .result) (omega arith) (c .byte .ensures .1), c .byte .ensures .0) (more (c .before)))
+
+returns : tie.Need-returns Inv-loop μ-loop
+returns c =
+    let e : c .before .loop .i ≡ c .before .before .before .args .width = omega arith in
+    rw e at (c .before .loop .inv .1)
+
+pub little-spec : {M : Type 1} → statement M
+little-spec =
+    tie.close
+    (tie.spec
+    Inv-loop
+    μ-loop
+    loop-holds
+    add-byte
+    byte-requires
+    mul-n
+    shl-n
+    add-n
+    add-i
+    loop-less
+    loop-again
+    returns)
