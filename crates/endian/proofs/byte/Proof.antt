@@ -1,3 +1,4 @@
+-- `endian::byte` meets its contract. A byte of a slice is below 256.
 use borrow.Author.Needs.{needs}
 use native.Mathlib.Omega.{arith}
 use Rattle.endian.proofs.byte.Statement.{statement}

@@ -1,3 +1,4 @@
+-- `endian::holds` meets its contract. The test subtracts where the definition adds.
 use borrow.Author.Needs.{needs}
 use borrow.Author.Tests.{lt-leb, le-leb}
 use Prim.Native.Nat.{_+_}

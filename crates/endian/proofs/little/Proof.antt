@@ -1,3 +1,4 @@
+-- `endian::little` meets its contract. The invariant: n is the number of the first i bytes. It stays below 256 ^ i, so that one byte more fits.
 use borrow.Author.Needs.{needs}
 use mathlib.Core.Path.{_≡_, refl}
 use Prim.Native.Nat.{_+_, _-_, _*_, _^_, _≤_, _<_}

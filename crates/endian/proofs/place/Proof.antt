@@ -1,3 +1,4 @@
+-- `endian::place` meets its contract. The invariant: what is left to place, placed into the buffer as it is now, gives the whole result.
 use borrow.Author.Needs.{needs}
 use mathlib.Core.Path.{_≡_, sym, _∙_}
 use Prim.Native.Nat.{_+_, _-_, _≤_}

@@ -1,3 +1,4 @@
+-- `endian::read_little` meets its contract. The test has shown that the number stands there.
 use borrow.Author.Needs.{needs}
 use mathlib.Core.Option.{some}
 use mathlib.Core.Path.{sym, ap, _∙_}

@@ -1,4 +1,4 @@
--- `endian::write_big` meets its contract: what the test says is what both parts of the contract turn on.
+-- `endian::write_big` meets its contract. What the test says is what both parts of the contract turn on.
 use borrow.Author.Needs.{needs}
 use mathlib.Core.Path.{sym, _∙_}
 use Rattle.endian.specs.Places.{writtenAt, holds-within}

@@ -1,3 +1,4 @@
+-- `xxh64::avalanche` meets its contract. Each call computes what the definition has in its place.
 use Rattle.xxh64.specs.Xxh64.{avalanche, foldHigh}
 use borrow.Author.Needs.{needs}
 use Rattle.xxh64.proofs.avalanche.Statement.{statement}

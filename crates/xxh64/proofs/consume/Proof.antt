@@ -1,3 +1,4 @@
+-- `xxh64::consume` meets its contract. The tests of the width pick the same step as the definition.
 use borrow.Author.Needs.{needs}
 use borrow.Author.Tests.{eq-eqb, ne-eqb}
 use Rattle.xxh64.specs.Xxh64.{consume}

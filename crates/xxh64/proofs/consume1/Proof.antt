@@ -1,3 +1,4 @@
+-- `xxh64::consume1` meets its contract. Each call computes what the definition has in its place.
 use borrow.Author.Needs.{needs}
 use Rattle.xxh64.specs.Xxh64.{consume1}
 use Rattle.xxh64.proofs.consume1.Statement.{statement}

@@ -1,3 +1,4 @@
+-- `xxh64::consume8` meets its contract. Each call computes what the definition has in its place.
 use borrow.Author.Needs.{needs}
 use Rattle.xxh64.specs.Xxh64.{consume8, add}
 use Rattle.xxh64.proofs.consume8.Statement.{statement}

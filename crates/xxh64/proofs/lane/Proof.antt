@@ -1,4 +1,4 @@
--- `xxh64::lane` meets its contract: the part holds the whole lane, so that the read gives its number and no other answer.
+-- `xxh64::lane` meets its contract. The part holds the whole lane, so that the read gives its number and no other answer.
 use borrow.Author.Needs.{needs}
 use mathlib.Core.Path.{_∙_}
 use Rattle.endian.specs.Numbers.{little}

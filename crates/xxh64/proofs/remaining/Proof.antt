@@ -1,3 +1,4 @@
+-- `xxh64::remaining` meets its contract. The invariant: k lanes have been taken.
 use borrow.Author.Needs.{needs}
 use mathlib.Core.Path.{_≡_}
 use Prim.Native.Nat.{_+_, _-_, _*_, _≤_}

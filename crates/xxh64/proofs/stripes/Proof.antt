@@ -1,3 +1,4 @@
+-- `xxh64::stripes` meets its contract. The invariant: each accumulator has taken one lane of each of k stripes. After at least one stripe they converge.
 use borrow.Author.Needs.{needs}
 use mathlib.Core.Path.{_≡_, _∙_}
 use Prim.Native.Nat.{_-_, _≤_}

@@ -1,3 +1,4 @@
+-- `xxh64::wrapping_mul` meets its contract. The products of halves fit, and their sum is the product modulo 2 ^ 64.
 use lib.Bits.{mask-lt}
 use lib.Pow.{shr-lt}
 use Rattle.xxh64.proofs.Laws.{product-lt, product-law}

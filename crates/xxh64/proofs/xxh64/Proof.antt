@@ -1,3 +1,4 @@
+-- `xxh64::xxh64` meets its contract. The steps one after the other; all places lie inside, since the parts of a length add up to it.
 use borrow.Author.Needs.{needs}
 use Rattle.xxh64.specs.Xxh64.{xxh64, add}
 use Rattle.xxh64.proofs.xxh64.Statement.{statement}
