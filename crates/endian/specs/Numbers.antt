@@ -91,6 +91,10 @@ unfolding big bigBytes
 bytes-of-big s h =
     rw (← length-reverse s, bytes-of-little (reverse s) (reverse-bytes s h), reverse-reverse)
 
+-- the bytes of a number are those of its remainder
+pub bigBytes-mod : (w n : ℕ) → bigBytes w (n % 256 ^ w) ≡ bigBytes w n
+bigBytes-mod w n = rw (length-bigBytes, big-of-bytes) at (bytes-of-big (bigBytes w n) (bigBytes-bytes w n))
+
 -- ---- one byte more
 
 pub little-append : (s t : List ℕ) → little (s ++ t) ≡ little s + 256 ^ length s * little t

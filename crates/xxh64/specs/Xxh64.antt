@@ -1,10 +1,12 @@
 -- XXH64 with seed 0, in the steps and names of the xxHash specification. Numbers have 64 bits: sums and products are remainders by 2 ^ 64.
-use Prim.Native.Nat.{ℕ, zero, suc, _+_, _-_, _*_, _/_, _%_, _^_}
+use Prim.Native.Nat.{ℕ, zero, suc, _+_, _-_, _*_, _/_, _%_, _^_, _<_}
 use mathlib.Core.Bool.{cond}
 use mathlib.Core.List.{List}
-use lib.Bits.{bitXor}
-use lib.Dec.{eqb}
+use native.Mathlib.Nat.{mod-lt, lt-of-le-of-lt}
+use lib.Bits.{bitXor, xor-lt}
+use lib.Dec.{eqb, lit<}
 use lib.ListN.{length, take, drop}
+use lib.Pow.{shr-le}
 use Rattle.endian.specs.Numbers.{little}
 
 abbrev pub prime1 : ℕ
@@ -97,3 +99,21 @@ xxh64 s =
     let acc = taken (consume 4) 4 4 s (n / 8 * 8) acc (n % 8 / 4) in
     let acc = taken (consume 1) 1 1 s (n / 4 * 4) acc (n % 4) in
     avalanche acc
+
+-- ---- the hash has 64 bits
+
+mul-lt : (a b : ℕ) → mul a b < 2 ^ 64
+unfolding mul
+mul-lt a b = mod-lt (a * b) (lit< tt)
+
+foldHigh-lt : (x r : ℕ) → x < 2 ^ 64 → foldHigh x r < 2 ^ 64
+unfolding foldHigh
+foldHigh-lt x r h = xor-lt 64 x (x / 2 ^ r) h (lt-of-le-of-lt (shr-le x r) h)
+
+avalanche-lt : (acc : ℕ) → avalanche acc < 2 ^ 64
+unfolding avalanche
+avalanche-lt acc = foldHigh-lt (mul (foldHigh (mul (foldHigh acc 33) prime2) 29) prime3) 32 (mul-lt (foldHigh (mul (foldHigh acc 33) prime2) 29) prime3)
+
+pub xxh64-lt : (s : List ℕ) → xxh64 s < 2 ^ 64
+unfolding xxh64
+xxh64-lt s = avalanche-lt _

@@ -1,0 +1,70 @@
+-- A pack: its records in order, up to its end or the first fault.
+use Prim.Native.Nat.{ℕ, zero, suc, _+_}
+use mathlib.Core.Bool.{cond}
+use mathlib.Core.List.{List, [], _∷_}
+use mathlib.Core.Path.{_≡_, refl, sym, ap, _∙_}
+use native.Mathlib.Nat.{add-zero}
+use native.Mathlib.Omega.{arith}
+use lib.Dec.{ltb}
+use lib.ListN.{length, drop}
+use Rattle.tlv.specs.Found.{Found, end, found, fault, step, numberOf}
+use Rattle.pack.specs.declared.Entry.{Entry}
+use Rattle.pack.specs.declared.Checked.{Checked}
+use Rattle.pack.specs.declared.Checked.the-variants as Checked
+
+-- how a reading ends: at the end of the pack, or with a refusal's number and place
+pub data Ending : Type 0 where
+  whole : Ending
+  refused : (number place : ℕ) → Ending
+
+-- the records before that, and how it ends; a pack is accepted when its reading ends whole
+pub record Reading : Type 0 where
+  pub entries : List Entry
+  pub ending : Ending
+
+abbrev pub cons : Entry → Reading → Reading
+cons e r = record { entries = e ∷ r .entries; ending = r .ending }
+
+-- what is found at a place, and then `rest`, told how many bytes to pass over after the first
+abbrev pub next : Found → ℕ → (ℕ → Reading) → Reading
+next end at rest = record { entries = []; ending = whole }
+next (found h) at rest = cons (record { start = at; tag = h .tag; length = h .length }) (rest (31 + h .length))
+next (fault n) at rest = record { entries = []; ending = refused n at }
+
+-- the records of the bytes at `at`, the first `skip` of which belong to a record that has been read
+unfoldable pub records : ℕ → ℕ → List ℕ → Reading
+records at skip [] = record { entries = []; ending = whole }
+records at zero (b ∷ s) = next (step (b ∷ s)) at (λ n. records (suc at) n s)
+records at (suc skip) (b ∷ s) = records (suc at) skip s
+
+-- the longest pack that document 01 has
+abbrev pub packLimit : ℕ
+packLimit = 4_294_967_295
+
+-- a pack, read under a limit on its length
+unfoldable pub reading : ℕ → List ℕ → Reading
+reading limit s = cond (ltb limit (length s)) (record { entries = []; ending = refused 1 0 }) (records 0 0 s)
+
+-- ---- what each answer of the code says
+
+pub data Outcome : Type 0 where
+  counted : ℕ → Outcome
+  refused : (number place : ℕ) → Outcome
+
+abbrev pub outcomeOf : Checked → Outcome
+outcomeOf (Checked.Records n) = counted n
+outcomeOf Checked.TooLong = refused 1 0
+outcomeOf (Checked.Fault f at) = refused (numberOf f) at
+
+abbrev pub outcome : Reading → Outcome
+outcome r = elim (r .ending) [ whole ↦ counted (length (r .entries)) | refused n at ↦ refused n at ]
+
+-- ---- the recursion, as it is meant: after a record, the reading goes on with what is left
+
+records-skip : (skip at : ℕ) (s : List ℕ) → records at skip s ≡ records (at + skip) 0 (drop skip s)
+unfolding records
+records-skip zero at s = rw add-zero
+records-skip (suc skip) at [] = refl
+records-skip (suc skip) at (b ∷ s) =
+    let e : suc at + skip ≡ at + suc skip = omega arith in
+    records-skip skip (suc at) s ∙ ap (λ (p : ℕ). records p 0 (drop skip s)) e

@@ -1,0 +1,3 @@
+pub mod Layout
+pub mod Found
+pub mod Stands
