@@ -1,13 +1,14 @@
 -- A pack: its records in order, up to its end or the first fault.
 use Prim.Native.Nat.{ℕ, zero, suc, _+_}
 use mathlib.Core.Bool.{cond}
-use mathlib.Core.List.{List, [], _∷_}
-use mathlib.Core.Path.{_≡_, refl, sym, ap, _∙_}
+use mathlib.Core.List.{List, [], _∷_, map}
+use mathlib.Core.Path.{_≡_, refl, ap, fun-ext, _∙_}
 use native.Mathlib.Nat.{add-zero}
 use native.Mathlib.Omega.{arith}
 use lib.Dec.{ltb}
 use lib.ListN.{length, drop}
-use Rattle.tlv.specs.Found.{Found, end, found, fault, step, numberOf}
+use Rattle.tlv.specs.Found.{Found, end, found, fault, step, step-none, numberOf}
+use Rattle.tlv.specs.declared.RecordHeader.{RecordHeader}
 use Rattle.pack.specs.declared.Entry.{Entry}
 use Rattle.pack.specs.declared.Checked.{Checked}
 use Rattle.pack.specs.declared.Checked.the-variants as Checked
@@ -68,3 +69,55 @@ records-skip (suc skip) at [] = refl
 records-skip (suc skip) at (b ∷ s) =
     let e : suc at + skip ≡ at + suc skip = omega arith in
     records-skip skip (suc at) s ∙ ap (λ (p : ℕ). records p 0 (drop skip s)) e
+
+pub records-next : (at : ℕ) (s : List ℕ) → records at 0 s ≡ next (step s) at (λ n. records (at + suc n) 0 (drop (suc n) s))
+unfolding records
+records-next at [] = rw (step-none [] refl)
+records-next at (b ∷ s) = ap (next (step (b ∷ s)) at) (fun-ext rest)
+  where
+    rest : (n : ℕ) → records (suc at) n s ≡ records (at + suc n) 0 (drop n s)
+    rest n =
+        let e : suc at + n ≡ at + suc n = omega arith in
+        records-skip n (suc at) s ∙ ap (λ (p : ℕ). records p 0 (drop n s)) e
+
+-- by what stands at the place
+pub records-end : (at : ℕ) (s : List ℕ) → step s ≡ end → records at 0 s ≡ record { entries = []; ending = whole }
+records-end at s e = rw (records-next, e)
+
+pub records-fault : (at : ℕ) (s : List ℕ) (n : ℕ) → step s ≡ fault n → records at 0 s ≡ record { entries = []; ending = refused n at }
+records-fault at s n e = rw (records-next, e)
+
+abbrev pub entryAt : ℕ → RecordHeader → Entry
+entryAt at h = record { start = at; tag = h .tag; length = h .length }
+
+pub records-found : (at : ℕ) (s : List ℕ) (h : RecordHeader) → step s ≡ found h → records at 0 s ≡ cons (entryAt at h) (records (at + (32 + h .length)) 0 (drop (32 + h .length) s))
+records-found at s h e =
+    let l : suc (31 + h .length) ≡ 32 + h .length = omega arith in
+    rw (records-next at s, e, l)
+
+-- ---- places are counted from where the reading begins
+
+abbrev pub shiftEntry : ℕ → Entry → Entry
+shiftEntry k e = record { start = e .start + k; tag = e .tag; length = e .length }
+
+abbrev pub shiftEnding : ℕ → Ending → Ending
+shiftEnding k whole = whole
+shiftEnding k (refused n at) = refused n (at + k)
+
+abbrev pub shift : ℕ → Reading → Reading
+shift k r = record { entries = map (shiftEntry k) (r .entries); ending = shiftEnding k (r .ending) }
+
+next-shift : (f : Found) (k at : ℕ) (rest rest′ : ℕ → Reading) → ((n : ℕ) → rest′ n ≡ shift k (rest n)) → next f (at + k) rest′ ≡ shift k (next f at rest)
+next-shift end k at rest rest′ same = refl
+next-shift (found h) k at rest rest′ same = rw (same (31 + h .length))
+next-shift (fault n) k at rest rest′ same = refl
+
+pub records-shift : (k at skip : ℕ) (s : List ℕ) → records (at + k) skip s ≡ shift k (records at skip s)
+unfolding records
+records-shift k at skip [] = refl
+records-shift k at zero (b ∷ s) =
+    let e : suc (at + k) ≡ suc at + k = omega arith in
+    next-shift (step (b ∷ s)) k at (λ n. records (suc at) n s) (λ n. records (suc (at + k)) n s) (λ n. rw e (records-shift k (suc at) n s))
+records-shift k at (suc skip) (b ∷ s) =
+    let e : suc (at + k) ≡ suc at + k = omega arith in
+    rw e (records-shift k (suc at) skip s)

@@ -5,7 +5,7 @@ use mathlib.Core.List.{List, [], _∷_, _++_}
 use mathlib.Core.Option.{Option, none, some, Option·elim}
 use mathlib.Core.Path.{_≡_, refl, sym, _∙_}
 use native.Mathlib.Omega.{arith}
-use borrow.Author.Tests.{ltb-false, ne-eqb}
+use borrow.Author.Tests.{ltb-false, eqb-true, ne-eqb}
 use lib.Dec.{eqb, ltb}
 use lib.ListN.{length, take, drop}
 use Rattle.xxh64.specs.Xxh64.{xxh64}
@@ -112,6 +112,18 @@ unless-fault (some m) g n e = cc
 pub step-none : (s : List ℕ) → length s ≡ 0 → step s ≡ end
 unfolding step
 step-none s e = rw e
+
+pub step-end : (s : List ℕ) → step s ≡ end → length s ≡ 0
+unfolding step
+step-end s e = go (eqb (length s) 0) refl e
+  where
+    never : (o : Option ℕ) → unless o (headerOf s) ≡ end → ⊥
+    never none e = let z : _≡_ {A = ℕ} 0 1 = cc in omega arith
+    never (some n) e = let z : _≡_ {A = ℕ} 0 1 = cc in omega arith
+
+    go : (t : Bool) → eqb (length s) 0 ≡ t → cond t end (unless (lowest (headerRows s ++ valueRows s)) (headerOf s)) ≡ end → length s ≡ 0
+    go true p e = eqb-true (length s) 0 p
+    go false p e = absurd (never (lowest (headerRows s ++ valueRows s)) e)
 
 module _ (s : List ℕ) (some-bytes : 0 < length s) where
   step-some : step s ≡ unless (Option·elim (lowest (headerRows s)) (lowest (valueRows s)) some) (headerOf s)

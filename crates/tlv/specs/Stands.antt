@@ -80,6 +80,10 @@ stands-step s h f =
 
 -- ---- a record stands exactly where the layout of one does
 
+-- the record that stands at the front of s
+unfoldable pub recordOf : List ℕ → Record
+recordOf s = record { spare = field s 28 2; tag = field s 25 2; value = take (field s 8 8) (drop 32 s) }
+
 module _ (r : Record) (rest : List ℕ) (fits : Fits r) where
   -- what follows the fields of bytes 0..29
   tail : List ℕ
@@ -93,13 +97,19 @@ module _ (r : Record) (rest : List ℕ) (fits : Fits r) where
   unfolding layout
   value-there = rw append-assoc (drop-at (head r) (r .value ++ rest) 32 (length-head r))
 
+  at-8 : field (layout r ++ rest) 8 8 ≡ length (r .value)
+  unfolding fields
+  at-8 = rw split (field-nth (fields r) 1 tail (lit< tt)) ∙ mod-eq-of-lt (fits .value)
+
+  at-25 : field (layout r ++ rest) 25 2 ≡ r .tag
+  unfolding fields
+  at-25 = rw split (field-nth (fields r) 4 tail (lit< tt)) ∙ mod-eq-of-lt (fits .tag)
+
   pub layout-stands : Stands (layout r ++ rest) (made (r .tag) (r .value))
   unfolding fields headerOf made tail
   layout-stands =
       let s = layout r ++ rest in
-      let at-8 : field s 8 8 ≡ length (r .value) = rw split (field-nth (fields r) 1 tail (lit< tt)) ∙ mod-eq-of-lt (fits .value) in
       let at-16 : field s 16 8 ≡ xxh64 (r .value) = rw split (field-nth (fields r) 2 tail (lit< tt)) ∙ mod-eq-of-lt (xxh64-lt (r .value)) in
-      let at-25 : field s 25 2 ≡ r .tag = rw split (field-nth (fields r) 4 tail (lit< tt)) ∙ mod-eq-of-lt (fits .tag) in
       let front : take 30 s ≡ bytesOf (fields r) = rw split (take-at (bytesOf (fields r)) tail 30 (length-front r)) in
       record {
         header = λ i. record { tag = at-25 i; length = at-8 i; hash = at-16 i };
@@ -111,9 +121,17 @@ module _ (r : Record) (rest : List ℕ) (fits : Fits r) where
         valueHash = rw (at-16, at-8, value-there, take-at (r .value) rest (length (r .value)) refl);
       }
 
--- the record that stands at the front of s
-unfoldable pub recordOf : List ℕ → Record
-recordOf s = record { spare = field s 28 2; tag = field s 25 2; value = take (field s 8 8) (drop 32 s) }
+  pub record-of-layout : recordOf (layout r ++ rest) ≡ r
+  unfolding fields recordOf tail
+  record-of-layout =
+      let s = layout r ++ rest in
+      let at-28 : field s 28 2 ≡ r .spare = rw split (field-nth (fields r) 6 tail (lit< tt)) ∙ mod-eq-of-lt (fits .spare) in
+      let value : take (field s 8 8) (drop 32 s) ≡ r .value = rw (at-8, value-there) (take-at (r .value) rest (length (r .value)) refl) in
+      λ i. record { spare = at-28 i; tag = at-25 i; value = value i }
+
+  -- what follows a record plays no part in reading it
+  pub layout-step : step (layout r ++ rest) ≡ found (made (r .tag) (r .value))
+  layout-step = stands-step (layout r ++ rest) (made (r .tag) (r .value)) layout-stands
 
 module _ (s : List ℕ) (h : RecordHeader) (bytes : AllBytes s) (stands : Stands s h) where
   length-field : field s 8 8 ≡ h .length
@@ -143,14 +161,14 @@ module _ (s : List ℕ) (h : RecordHeader) (bytes : AllBytes s) (stands : Stands
   unfolding fields recordOf
   front =
       (λ i. bytesOf (
-        record { width = 8; number = sym (stands .magic) i }
-        ∷ record { width = 8; number = (value-length ∙ sym length-field) i }
-        ∷ record { width = 8; number = sym (stands .valueHash) i }
-        ∷ record { width = 1; number = sym (stands .version) i }
-        ∷ record { width = 2; number = field s 25 2 }
-        ∷ record { width = 1; number = sym (stands .hashType) i }
-        ∷ record { width = 2; number = field s 28 2 }
-        ∷ []
+      record { width = 8; number = sym (stands .magic) i }
+      ∷ record { width = 8; number = (value-length ∙ sym length-field) i }
+      ∷ record { width = 8; number = sym (stands .valueHash) i }
+      ∷ record { width = 1; number = sym (stands .version) i }
+      ∷ record { width = 2; number = field s 25 2 }
+      ∷ record { width = 1; number = sym (stands .hashType) i }
+      ∷ record { width = 2; number = field s 28 2 }
+      ∷ []
       ))
       ∙ bytesOf-cut (8 ∷ 8 ∷ 8 ∷ 1 ∷ 2 ∷ 1 ∷ 2 ∷ []) 0 s bytes (omega (arith, stands .long))
 

@@ -39,14 +39,20 @@ pub enum Step {
 impl RecordHeader {
     // The header's length, and the longest pack.
     pub const LENGTH: usize = 32;
+
     pub const LIMIT: usize = 4_294_967_295;
 
     // Where the fields begin.
     const VALUE_LENGTH: usize = 8;
+
     const VALUE_HASH: usize = 16;
+
     const VERSION: usize = 24;
+
     const TAG: usize = 25;
+
     const HASH_TYPE: usize = 27;
+
     const HEADER_HASH: usize = 30;
 
     const MAGIC: u64 = 0x89544C560D0A1A0A;

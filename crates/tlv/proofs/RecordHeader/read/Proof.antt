@@ -73,7 +73,7 @@ field-requires-4 c κs = search needs
 returns-5 : tie.Need-returns-5
 unfolding header headerRows lowest
 returns-5 c =
-    rw (row2 (c .before .before .before .before .before .before .before .before .before .before ), row3 (c .before .before .before .before .before .before .before .before ), row4 (c .before .before .before .before .before .before ), row5 (c .before .before .before .before ), differs (c .before .field4 .ensures .0) (λ e. c .if5 .taken (e ∙ sym (expected (c .before .before)))))
+    rw (row2 (c .before .before .before .before .before .before .before .before .before .before), row3 (c .before .before .before .before .before .before .before .before), row4 (c .before .before .before .before .before .before), row5 (c .before .before .before .before), differs (c .before .field4 .ensures .0) (λ e. c .if5 .taken (e ∙ sym (expected (c .before .before)))))
 
 field-requires-5 : tie.Need-field-requires-5
 field-requires-5 c κs = search needs
@@ -90,7 +90,7 @@ field-requires-7 c κs = search needs
 returns-6 : tie.Need-returns-6
 unfolding header headerRows lowest headerOf
 returns-6 c =
-    rw (row2 (c .before .before .before .before .before .before .before .before .before .before .before .before .before ), row3 (c .before .before .before .before .before .before .before .before .before .before .before ), row4 (c .before .before .before .before .before .before .before .before .before ), row5 (c .before .before .before .before .before .before .before ), row6 (c .before .before .before ))
+    rw (row2 (c .before .before .before .before .before .before .before .before .before .before .before .before .before), row3 (c .before .before .before .before .before .before .before .before .before .before .before), row4 (c .before .before .before .before .before .before .before .before .before), row5 (c .before .before .before .before .before .before .before), row6 (c .before .before .before))
     (λ i. found (record { tag = c .before .before .field5 .ensures .0 i; length = c .before .field6 .ensures .0 i; hash = c .field7 .ensures .0 i }))
 
 pub read-spec : {M : Type 1} → statement M
