@@ -1,6 +1,7 @@
 // One record of a pack: a header of 32 bytes and a value.
 ghost use mathlib.Core.Path.{_≡_};
 ghost use Prim.Native.Nat.{_+_, _≤_, _<_, _^_};
+ghost use lib.Dec.{leb};
 ghost use lib.ListN.{length, drop};
 ghost use Rattle.tlv.specs.Layout.{field};
 ghost use Rattle.tlv.specs.Found.{header, step, made, found, unless, lowest, valueRows, foundHeader, foundStep};
@@ -107,14 +108,22 @@ fn field(s: &[u8], at: usize, width: usize) -> u64
     }
 }
 
-// The step where a header stands: the value's length is compared before anything is added to it.
+// Whether a value of this length ends within what is left. Nothing is added to the length before it
+// is compared.
+fn value_fits(length: u64, left: usize) -> bool
+    ensures { λ r. ⌜ r ≡ leb length left ⌝ }
+{
+    length <= left as u64
+}
+
+// The step where a header stands.
 fn step_value(s: &[u8], h: RecordHeader) -> Step
     requires { ⌜ header (now s) ≡ found h ⌝ }
     ensures { λ r. ⌜ foundStep r ≡ unless (lowest (valueRows (now (s .entry)))) h ⌝ }
 {
     let left = s.len() - RecordHeader::LENGTH;
     let length = h.length;
-    if (left as u64) < length {
+    if !value_fits(length, left) {
         return Step::Fault(Fault::ValueCut);
     }
     let end = RecordHeader::LENGTH + length as usize;

@@ -1,0 +1,7 @@
+-- The one number that the benchmark of the check compares.
+use Prim.Native.Nat.{ℕ}
+use Rattle.pack.specs.Reading.{Outcome, counted, refused}
+
+abbrev pub countOf : Outcome → ℕ
+countOf (counted n) = n
+countOf (refused n place) = 0
