@@ -49,6 +49,13 @@ lowest (row ∷ rows) = cond (row .applies) (some (row .number)) (lowest rows)
 unfoldable pub headerOf : List ℕ → RecordHeader
 headerOf s = record { tag = field s 25 2; length = field s 8 8; hash = field s 16 8 }
 
+-- the same, or zeros where no header is left
+abbrev pub noHeader : RecordHeader
+noHeader = record { tag = 0; length = 0; hash = 0 }
+
+unfoldable pub fieldsOf : List ℕ → RecordHeader
+fieldsOf s = cond (ltb (length s) 32) noHeader (headerOf s)
+
 -- the header of a record with this tag and value
 unfoldable pub made : ℕ → List ℕ → RecordHeader
 made tag value = record { tag = tag; length = length value; hash = xxh64 value }

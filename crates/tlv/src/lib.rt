@@ -4,7 +4,8 @@ ghost use Prim.Native.Nat.{_+_, _≤_, _<_, _^_};
 ghost use lib.Dec.{leb};
 ghost use lib.ListN.{length, drop};
 ghost use Rattle.tlv.specs.Layout.{field};
-ghost use Rattle.tlv.specs.Found.{header, step, made, found, unless, lowest, valueRows, foundHeader, foundStep};
+ghost use Rattle.tlv.specs.Found.{header, step, made, noHeader, fieldsOf, found, unless, lowest, valueRows, foundHeader, foundStep};
+ghost use Rattle.tlv.specs.Passing.{inside, passAt};
 use endian::Number;
 
 // Refusals 2 to 8 of document 01.
@@ -78,11 +79,22 @@ impl RecordHeader {
         if field(s, RecordHeader::HEADER_HASH, 2) != hash {
             return HeaderRead::Fault(Fault::HeaderHash);
         }
-        HeaderRead::Header(RecordHeader {
+        HeaderRead::Header(RecordHeader::fields(s))
+    }
+
+    // The fields at the front of a slice, tested by nobody: for a pack that has been checked before.
+    // Zeros where fewer than 32 bytes are left.
+    pub fn fields(s: &[u8]) -> RecordHeader
+        ensures { λ r. ⌜ r ≡ fieldsOf (now (s .entry)) ⌝ }
+    {
+        if s.len() < RecordHeader::LENGTH {
+            return no_header();
+        }
+        RecordHeader {
             tag: field(s, RecordHeader::TAG, 2) as u16,
             length: field(s, RecordHeader::VALUE_LENGTH, 8),
             hash: field(s, RecordHeader::VALUE_HASH, 8),
-        })
+        }
     }
 
     // The header of a record that is to be written.
@@ -94,6 +106,16 @@ impl RecordHeader {
             length: value.len() as u64,
             hash: xxh64::xxh64(value),
         }
+    }
+}
+
+fn no_header() -> RecordHeader
+    ensures { λ r. ⌜ r ≡ noHeader ⌝ }
+{
+    RecordHeader {
+        tag: 0,
+        length: 0,
+        hash: 0,
     }
 }
 
@@ -152,4 +174,51 @@ pub fn step_at(pack: &[u8], at: usize) -> Step
         return Step::End;
     }
     step_front(&pack[at..])
+}
+
+// A record of a pack that has been checked before, and the place after it.
+pub struct Passed {
+    pub header: RecordHeader,
+    pub next: usize,
+}
+
+// Whether a record with a value of this length, at this place, lies within len bytes.
+fn inside(len: usize, at: usize, length: u64) -> bool
+    ensures { λ r. ⌜ r ≡ inside len at length ⌝ }
+{
+    if len < RecordHeader::LENGTH {
+        return false;
+    }
+    if len - RecordHeader::LENGTH < at {
+        return false;
+    }
+    value_fits(length, len - RecordHeader::LENGTH - at)
+}
+
+fn fields_at(pack: &[u8], at: usize) -> RecordHeader
+    ensures { λ r. ⌜ r ≡ fieldsOf (drop at (now (pack .entry))) ⌝ }
+{
+    if pack.len() <= at {
+        return no_header();
+    }
+    RecordHeader::fields(&pack[at..])
+}
+
+// The record at a place, with no test of its hashes; one that does not lie inside is not passed.
+pub fn pass_at(pack: &[u8], at: usize) -> Passed
+    ensures { λ r. ⌜ r ≡ passAt (now (pack .entry)) at ⌝ }
+{
+    let header = fields_at(pack, at);
+    let length = header.length;
+    if inside(pack.len(), at, length) {
+        Passed {
+            header,
+            next: at + RecordHeader::LENGTH + length as usize,
+        }
+    } else {
+        Passed {
+            header: no_header(),
+            next: at,
+        }
+    }
 }

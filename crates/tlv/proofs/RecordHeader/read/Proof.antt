@@ -11,7 +11,7 @@ use Rattle.xxh64.specs.Xxh64.{xxh64}
 use lib.Seq.{length-take-le}
 use Rattle.tlv.specs.Layout.{magic, field}
 use Rattle.tlv.proofs.Rows.{agrees, differs}
-use Rattle.tlv.specs.Found.{header, headerRows, lowest, headerOf, found}
+use Rattle.tlv.specs.Found.{header, headerRows, lowest, fieldsOf}
 use Rattle.tlv.proofs.RecordHeader.read.Statement.{statement}
 use Rattle.tlv.proofs.RecordHeader.read.Tie as tie
 
@@ -75,23 +75,13 @@ unfolding header headerRows lowest
 returns-5 c =
     rw (row2 (c .before .before .before .before .before .before .before .before .before .before), row3 (c .before .before .before .before .before .before .before .before), row4 (c .before .before .before .before .before .before), row5 (c .before .before .before .before), differs (c .before .field4 .ensures .0) (λ e. c .if5 .taken (e ∙ sym (expected (c .before .before)))))
 
-field-requires-5 : tie.Need-field-requires-5
-field-requires-5 c κs = search needs
-
-cast-t13 : tie.Need-cast-t13
-cast-t13 c = search needs
-
-field-requires-6 : tie.Need-field-requires-6
-field-requires-6 c κs = search needs
-
-field-requires-7 : tie.Need-field-requires-7
-field-requires-7 c κs = search needs
+fields-requires : tie.Need-fields-requires
+fields-requires c κs = search needs
 
 returns-6 : tie.Need-returns-6
-unfolding header headerRows lowest headerOf
+unfolding header headerRows lowest fieldsOf
 returns-6 c =
-    rw (row2 (c .before .before .before .before .before .before .before .before .before .before .before .before .before), row3 (c .before .before .before .before .before .before .before .before .before .before .before), row4 (c .before .before .before .before .before .before .before .before .before), row5 (c .before .before .before .before .before .before .before), row6 (c .before .before .before))
-    (λ i. found (record { tag = c .before .before .field5 .ensures .0 i; length = c .before .field6 .ensures .0 i; hash = c .field7 .ensures .0 i }))
+    rw (row2 (c .before .before .before .before .before .before .before .before .before .before .before ), row3 (c .before .before .before .before .before .before .before .before .before ), row4 (c .before .before .before .before .before .before .before ), row5 (c .before .before .before .before .before ), row6 (c .before), c .fields .ensures, row2 (c .before .before .before .before .before .before .before .before .before .before .before ))
 
 pub read-spec : {M : Type 1} → statement M
 read-spec =
@@ -108,8 +98,5 @@ read-spec =
     xxh64-requires
     field-requires-4
     returns-5
-    field-requires-5
-    cast-t13
-    field-requires-6
-    field-requires-7
+    fields-requires
     returns-6)

@@ -1,0 +1,153 @@
+//! The proved check of a whole pack against a plain one in Rust, on the same bytes and in one run.
+
+use std::hint::black_box;
+use std::process::exit;
+
+mod plain;
+mod timing;
+
+// The proved function, from target/staticlib/libbench.a.
+#[link(name = "bench", kind = "static")]
+extern "C" {
+    fn bench_check(pack: *const u8, len: usize) -> u64;
+}
+
+/// How many records the pack has, or 0 where it is refused.
+fn proved(pack: &[u8]) -> u64 {
+    // SAFETY: the pointer and the length are those of a slice, and the function only reads it.
+    unsafe { bench_check(pack.as_ptr(), pack.len()) }
+}
+
+const MAGIC: [u8; 8] = *b"\x89TLV\r\n\x1a\n";
+const HEADER: usize = 32;
+
+fn read16(bytes: &[u8]) -> u64 {
+    u64::from(u16::from_be_bytes(bytes.try_into().unwrap()))
+}
+
+fn read64(bytes: &[u8]) -> u64 {
+    u64::from_be_bytes(bytes.try_into().unwrap())
+}
+
+/// How many records the pack has, or the number of its refusal, after document 01.
+// Not inlined: the proved function is a call into an archive, so this one is to be a call too.
+#[inline(never)]
+fn rust(pack: &[u8]) -> Result<u64, u32> {
+    if pack.len() > 4_294_967_295 {
+        return Err(1);
+    }
+    let mut left = pack;
+    let mut records = 0;
+    while !left.is_empty() {
+        let Some((header, after)) = left.split_first_chunk::<HEADER>() else {
+            return Err(2);
+        };
+        if header[..8] != MAGIC {
+            return Err(3);
+        }
+        if header[24] != 0 {
+            return Err(4);
+        }
+        if header[27] != 8 {
+            return Err(5);
+        }
+        if read16(&header[30..]) != plain::xxh64(&header[..30]) % 65536 {
+            return Err(6);
+        }
+        let length = read64(&header[8..16]);
+        if length > after.len() as u64 {
+            return Err(7);
+        }
+        let (value, after) = after.split_at(length as usize);
+        if read64(&header[16..24]) != plain::xxh64(value) {
+            return Err(8);
+        }
+        left = after;
+        records += 1;
+    }
+    Ok(records)
+}
+
+const VALUE: usize = 10_000;
+const RECORD: usize = HEADER + VALUE;
+/// As many as 64 MiB have room for.
+const RECORDS: usize = (64 << 20) / RECORD;
+
+/// A good pack. Its values are no blocks, which the check does not ask.
+fn generate() -> Vec<u8> {
+    let mut pack = Vec::with_capacity(RECORDS * RECORD);
+    for value in plain::generate(RECORDS * VALUE).chunks_exact(VALUE) {
+        let start = pack.len();
+        pack.extend(MAGIC);
+        pack.extend((VALUE as u64).to_be_bytes());
+        pack.extend(plain::xxh64(value).to_be_bytes());
+        // The version, the tag, the hash type and two bytes that are not interpreted.
+        pack.extend(*b"\x00bk\x08\x00\x00");
+        let hash = plain::xxh64(&pack[start..]) as u16;
+        pack.extend(hash.to_be_bytes());
+        pack.extend(value);
+    }
+    pack
+}
+
+/// Bytes of a record, under the refusal that a change of one of them brings.
+const FLIPS: [(u32, &[usize]); 5] = [
+    (3, &[0, 7]),
+    (4, &[24]),
+    (5, &[27]),
+    (6, &[8, 15, 16, 23, 25, 26, 28, 29, 30, 31]),
+    (8, &[32, 63, 64, 5000, 10015, 10016, RECORD - 1]),
+];
+
+fn expect(want: Result<u64, u32>, pack: &[u8], what: &str) {
+    let (p, r) = (proved(pack), rust(pack));
+    if p != want.unwrap_or(0) || r != want {
+        eprintln!("pack: {what}: proved gives {p}, Rust {r:?}, where {want:?} is right");
+        exit(1);
+    }
+}
+
+/// Figures of a function that takes a bad pack would mean nothing.
+fn check(pack: &mut [u8]) {
+    expect(Ok(RECORDS as u64), pack, "the good pack");
+    for record in [0, RECORDS / 2, RECORDS - 1] {
+        for (refusal, places) in FLIPS {
+            for place in places {
+                let at = record * RECORD + place;
+                pack[at] ^= 1;
+                expect(Err(refusal), pack, &format!("byte {at} flipped"));
+                pack[at] ^= 1;
+            }
+        }
+    }
+    // Without its last byte, and with 31 bytes of the last header.
+    for (refusal, cut) in [(7, 1), (2, VALUE + 1)] {
+        let cut_pack = &pack[..pack.len() - cut];
+        expect(Err(refusal), cut_pack, &format!("{cut} bytes cut off"));
+    }
+}
+
+fn main() {
+    let mut pack = generate();
+    check(&mut pack);
+    println!("Check of a pack, values of {VALUE} bytes, best round of each; proved/Rust under 1.00 means that proved is faster");
+    println!("   bytes   records   proved ms   Rust ms   proved/Rust   proved GB/s   Rust GB/s");
+    let (p, r) = timing::compare(
+        || {
+            black_box(proved(black_box(&pack)));
+        },
+        || {
+            let _ = black_box(rust(black_box(&pack)));
+        },
+    );
+    let len = pack.len();
+    // Bytes per nanosecond are gigabytes per second.
+    println!(
+        "{len:8} {RECORDS:9} {:11.3} {:9.3} {:13.2} {:13.2} {:11.2}",
+        p / 1e6,
+        r / 1e6,
+        p / r,
+        len as f64 / p,
+        len as f64 / r
+    );
+}
