@@ -73,7 +73,7 @@ const RECORD: usize = HEADER + VALUE;
 /// As many as 64 MiB have room for.
 const RECORDS: usize = (64 << 20) / RECORD;
 
-/// A good pack. Its values are no blocks, which the check does not ask.
+/// A good pack. Its values are only bytes: the check reads nothing in them.
 fn generate() -> Vec<u8> {
     let mut pack = Vec::with_capacity(RECORDS * RECORD);
     for value in plain::generate(RECORDS * VALUE).chunks_exact(VALUE) {
@@ -96,6 +96,7 @@ const FLIPS: [(u32, &[usize]); 5] = [
     (4, &[24]),
     (5, &[27]),
     (6, &[8, 15, 16, 23, 25, 26, 28, 29, 30, 31]),
+    // Among them both sides of where the first and the last stripe of the value's hash end.
     (8, &[32, 63, 64, 5000, 10015, 10016, RECORD - 1]),
 ];
 
@@ -130,7 +131,7 @@ fn check(pack: &mut [u8]) {
 fn main() {
     let mut pack = generate();
     check(&mut pack);
-    println!("Check of a pack, values of {VALUE} bytes, best round of each; proved/Rust under 1.00 means that proved is faster");
+    println!("Pack check, best round of each; proved/Rust under 1.00 means that proved is faster");
     println!("   bytes   records   proved ms   Rust ms   proved/Rust   proved GB/s   Rust GB/s");
     let (p, r) = timing::compare(
         || {

@@ -23,7 +23,8 @@ fn rust(data: &[u8]) -> u64 {
     plain::xxh64(data)
 }
 
-/// Published hashes of the first bytes of that buffer, so that the two are not wrong alike.
+/// Published hashes of the first bytes that `plain::generate` gives, so that the two are not wrong
+/// alike.
 const KNOWN: [(usize, u64); 4] = [
     (0, 0xEF46DB3751D8E999),
     (1, 0xE934A84ADB052768),

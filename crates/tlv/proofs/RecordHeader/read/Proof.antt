@@ -81,7 +81,7 @@ fields-requires c κs = search needs
 returns-6 : tie.Need-returns-6
 unfolding header headerRows lowest fieldsOf
 returns-6 c =
-    rw (row2 (c .before .before .before .before .before .before .before .before .before .before .before ), row3 (c .before .before .before .before .before .before .before .before .before ), row4 (c .before .before .before .before .before .before .before ), row5 (c .before .before .before .before .before ), row6 (c .before), c .fields .ensures, row2 (c .before .before .before .before .before .before .before .before .before .before .before ))
+    rw (row2 (c .before .before .before .before .before .before .before .before .before .before .before), row3 (c .before .before .before .before .before .before .before .before .before), row4 (c .before .before .before .before .before .before .before), row5 (c .before .before .before .before .before), row6 (c .before), c .fields .ensures, row2 (c .before .before .before .before .before .before .before .before .before .before .before))
 
 pub read-spec : {M : Type 1} → statement M
 read-spec =
