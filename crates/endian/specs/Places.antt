@@ -1,14 +1,15 @@
 -- Numbers at a place of a list: where one can stand, what is read there, and what the list holds once one is written.
-use Prim.Native.Nat.{ℕ, _+_, _≤_}
+use Prim.Native.Nat.{ℕ, _+_, _-_, _≤_}
 use mathlib.Core.Bool.{Bool, true, false, cond, _&&_, true≢false}
-use mathlib.Core.List.{List, _++_}
+use mathlib.Core.List.{List, _++_, append-assoc}
 use mathlib.Core.Option.{Option, none, some}
 use mathlib.Core.Path.{_≡_, refl, sym, ap, _∙_}
 use native.Mathlib.Omega.{arith}
 use borrow.Author.Tests.{le-leb, leb-true}
 use lib.Dec.{leb}
-use lib.ListN.{length, take, drop}
-use Rattle.endian.specs.Numbers.{bigBytes}
+use lib.ListN.{length, take, drop, length-append, length-drop}
+use lib.Seq.{length-take-le, take-at, drop-append-add, drop-drop}
+use Rattle.endian.specs.Numbers.{bigBytes, length-bigBytes}
 use Rattle.endian.specs.declared.Number.{Number}
 use Rattle.endian.specs.declared.Number.the-variants.{Read, Missing}
 
@@ -27,6 +28,53 @@ placed s at w n = take at s ++ bigBytes w n ++ drop (at + w) s
 -- what a write leaves: the list as it was, where the number cannot stand there
 unfoldable pub writtenAt : List ℕ → ℕ → ℕ → ℕ → List ℕ
 writtenAt s at w n = cond (holds (length s) at w) (placed s at w n) s
+
+-- ---- bytes at a place
+
+-- s with t in place of what stood from `at` on
+unfoldable pub overwritten : List ℕ → ℕ → List ℕ → List ℕ
+overwritten s at t = take at s ++ t ++ drop (at + length t) s
+
+-- what a write of t leaves: s as it was, where t does not lie within
+unfoldable pub writtenBytes : List ℕ → ℕ → List ℕ → List ℕ
+writtenBytes s at t = cond (leb (at + length t) (length s)) (overwritten s at t) s
+
+pub placed-overwritten : (s : List ℕ) (at w n : ℕ) → placed s at w n ≡ overwritten s at (bigBytes w n)
+unfolding placed overwritten
+placed-overwritten s at w n = rw length-bigBytes
+
+module _ (s : List ℕ) (at : ℕ) (t : List ℕ) (fits : at + length t ≤ length s) where
+  front-length : length (take at s) ≡ at
+  front-length = length-take-le at s (omega arith)
+
+  pub length-overwritten : length (overwritten s at t) ≡ length s
+  unfolding overwritten
+  length-overwritten = rw (length-append, length-append, front-length, length-drop) (omega arith)
+
+  pub take-overwritten : take (at + length t) (overwritten s at t) ≡ take at s ++ t
+  unfolding overwritten
+  take-overwritten = take-at (take at s ++ t) (drop (at + length t) s) (at + length t) (rw (length-append, front-length))
+
+  pub drop-overwritten : (n : ℕ) → at + length t ≤ n → drop n (overwritten s at t) ≡ drop n s
+  unfolding overwritten
+  drop-overwritten n h =
+      let l : length (take at s ++ t) + (n - (at + length t)) ≡ n = rw (length-append, front-length) (omega arith) in
+      let m : at + length t + (n - (at + length t)) ≡ n = omega arith in
+      ap (λ (k : ℕ). drop k (take at s ++ t ++ drop (at + length t) s)) (sym l)
+      ∙ drop-append-add (take at s ++ t) (drop (at + length t) s) (n - (at + length t))
+      ∙ drop-drop (n - (at + length t)) (at + length t) s
+      ∙ ap (λ (k : ℕ). drop k s) m
+
+overwrite-after : (x s : List ℕ) (at : ℕ) (t u : List ℕ) → take (at + length t) x ≡ take at s ++ t → drop (at + length t + length u) x ≡ drop (at + length t + length u) s → overwritten x (at + length t) u ≡ overwritten s at (t ++ u)
+unfolding overwritten
+overwrite-after x s at t u p q =
+    let n : at + length (t ++ u) ≡ at + length t + length u = rw length-append (omega arith) in
+    rw (p, q, n) (simp append-assoc)
+
+-- one text after the other
+pub overwritten-more : (s : List ℕ) (at : ℕ) (t u : List ℕ) → at + length t + length u ≤ length s → overwritten (overwritten s at t) (at + length t) u ≡ overwritten s at (t ++ u)
+overwritten-more s at t u fits =
+    overwrite-after (overwritten s at t) s at t u (take-overwritten s at t (omega arith)) (drop-overwritten s at t (omega arith) (at + length t + length u) (omega arith))
 
 -- what each answer of a read says
 abbrev pub numberOf : Number → Option ℕ

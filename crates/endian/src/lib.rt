@@ -1,9 +1,11 @@
-// Numbers as bytes, big- and little-endian, of up to 8 bytes at a place of a slice.
+// Numbers as bytes, big- and little-endian, of up to 8 bytes at a place of a slice; and bytes as they
+// are.
 ghost use mathlib.Core.Path.{_≡_};
 ghost use Prim.Native.Nat.{_+_, _≤_, _<_};
+ghost use lib.Dec.{leb};
 ghost use lib.ListN.{length, getD, take, drop};
 ghost use Rattle.endian.specs.Numbers.{little, big};
-ghost use Rattle.endian.specs.Places.{holds, numberAt, placed, writtenAt, numberOf};
+ghost use Rattle.endian.specs.Places.{holds, numberAt, placed, writtenAt, overwritten, writtenBytes, numberOf};
 
 // What a read finds: the number, or that no number of that width stands there, since the slice
 // ends before it or the width is above 8.
@@ -20,10 +22,7 @@ fn holds(len: usize, at: usize, width: usize) -> bool
     if 8 < width {
         return false;
     }
-    if len < width {
-        return false;
-    }
-    at <= len - width
+    lies(len, at, width)
 }
 
 fn byte(s: &[u8], i: usize) -> u64
@@ -104,6 +103,40 @@ pub fn write_big(out: &mut [u8], at: usize, width: usize, n: u64) -> bool
 {
     if holds(out.len(), at, width) {
         place(out, at, width, n);
+        true
+    } else {
+        false
+    }
+}
+
+// Whether so many bytes, from at on, lie within len bytes.
+fn lies(len: usize, at: usize, count: usize) -> bool
+    ensures { λ r. ⌜ r ≡ leb (at + count) len ⌝ }
+{
+    if len < count {
+        return false;
+    }
+    at <= len - count
+}
+
+fn copy(out: &mut [u8], at: usize, text: &[u8])
+    requires { ⌜ at + length (now text) ≤ length (now out) ⌝ }
+    ensures { λ _. ⌜ now (out .exit) ≡ overwritten (now (out .entry)) at (now (text .entry)) ⌝ }
+{
+    let mut i = 0;
+    while i < text.len() {
+        out[at + i] = text[i];
+        i += 1;
+    }
+}
+
+// Answers whether the bytes were written; where they were not, nothing was.
+pub fn write_bytes(out: &mut [u8], at: usize, text: &[u8]) -> bool
+    ensures { λ r. ⌜ r ≡ leb (at + length (now (text .entry))) (length (now (out .entry))) ⌝ }
+    ensures { λ _. ⌜ now (out .exit) ≡ writtenBytes (now (out .entry)) at (now (text .entry)) ⌝ }
+{
+    if lies(out.len(), at, text.len()) {
+        copy(out, at, text);
         true
     } else {
         false
