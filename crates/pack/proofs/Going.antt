@@ -1,6 +1,6 @@
 -- Where a pass over a pack stands: some records have been counted, and the reading goes on from a place.
-use Prim.Native.Nat.{ℕ, zero, suc, _+_, _≤_, _<_}
-use mathlib.Core.List.{List, []}
+use Prim.Native.Nat.{ℕ, _+_, _≤_, _<_}
+use mathlib.Core.List.{List}
 use mathlib.Core.Path.{_≡_, refl, sym, ap, _∙_}
 use native.Mathlib.Nat.{add-zero, zero-add, add-assoc}
 use native.Mathlib.Omega.{arith}
@@ -11,20 +11,23 @@ use Rattle.tlv.specs.Found.{end, found, fault, step}
 use Rattle.tlv.specs.Stands.{step-stands}
 use Rattle.tlv.specs.declared.RecordHeader.{RecordHeader}
 use Rattle.pack.specs.declared.Entry.{Entry}
-use Rattle.pack.specs.Reading.{Reading, Ending, whole, refused, cons, records, reading, packLimit, Outcome, counted, outcome, records-end, records-fault, records-found, entryAt}
+use Rattle.pack.specs.Reading.{Reading, Ending, whole, refused, cons, records, reading, packLimit, Outcome, counted, alone, outcome, records-end, records-fault, records-found, entryAt}
 
 -- so many records more
 abbrev plus : ℕ → Outcome → Outcome
 plus k (counted n) = counted (k + n)
 plus k (refused n at) = refused n at
+plus k (alone n) = alone n
 
 plus-none : (o : Outcome) → o ≡ plus 0 o
 plus-none (counted n) = ap counted (sym (zero-add n))
 plus-none (refused n at) = refl
+plus-none (alone n) = refl
 
 plus-one : (k : ℕ) (o : Outcome) → plus k (plus 1 o) ≡ plus (k + 1) o
 plus-one k (counted n) = ap counted (sym (add-assoc k 1 n))
 plus-one k (refused n at) = refl
+plus-one k (alone n) = refl
 
 outcome-cons : (e : Entry) (es : List Entry) (f : Ending) → outcome (cons e (record { entries = es; ending = f })) ≡ plus 1 (outcome (record { entries = es; ending = f }))
 outcome-cons e es whole = ap counted (omega arith)

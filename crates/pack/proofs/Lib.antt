@@ -1,1 +1,4 @@
+pub mod Calls
 pub mod Going
+pub mod Lent
+pub mod Writes

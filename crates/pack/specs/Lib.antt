@@ -1,3 +1,5 @@
 pub mod Reading
 pub mod Acceptance
+pub mod Scan
+pub mod Walk
 pub mod Cases

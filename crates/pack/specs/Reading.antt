@@ -48,9 +48,11 @@ reading limit s = cond (ltb limit (length s)) (record { entries = []; ending = r
 
 -- ---- what each answer of the code says
 
+-- a count; a refusal with its place; a refusal whose number stands alone, 19 or 20
 pub data Outcome : Type 0 where
   counted : ℕ → Outcome
   refused : (number place : ℕ) → Outcome
+  alone : ℕ → Outcome
 
 abbrev pub outcomeOf : Checked → Outcome
 outcomeOf (Checked.Records n) = counted n

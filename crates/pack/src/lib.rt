@@ -1,6 +1,11 @@
 // A whole pack: records end to end.
 ghost use mathlib.Core.Path.{_≡_};
+ghost use Prim.Native.Nat.{_≤_};
+ghost use mathlib.Core.List.{_++_};
+ghost use lib.ListN.{length, drop};
 ghost use Rattle.pack.specs.Reading.{reading, packLimit, outcome, outcomeOf};
+ghost use Rattle.pack.specs.Scan.{scannedOf, fitted, scanned, written, listedAt, firstEntries, listAfter};
+ghost use Rattle.pack.specs.Walk.{yieldOf, callOf, turnAt, nthYield};
 use tlv::Fault;
 use tlv::RecordHeader;
 use tlv::Step;
@@ -36,5 +41,175 @@ pub fn check(pack: &[u8]) -> Checked
                 count += 1;
             }
         }
+    }
+}
+
+// ---- the scan, which fills a lent list
+
+// How many entries were filled in, or the refusal. The list is too short: refusal 19.
+pub enum Scanned {
+    Filled(usize),
+    TooLong,
+    Fault(Fault, usize),
+    Short,
+}
+
+// How a scan into a list of so many entries ends.
+fn fit(checked: Checked, room: usize) -> Scanned
+    ensures { λ r. ⌜ scannedOf r ≡ fitted (outcomeOf checked) room ⌝ }
+{
+    match checked {
+        Checked::Records(n) => {
+            if n <= room {
+                Scanned::Filled(n)
+            } else {
+                Scanned::Short
+            }
+        }
+        Checked::TooLong => Scanned::TooLong,
+        Checked::Fault(f, at) => Scanned::Fault(f, at),
+    }
+}
+
+// How many entries it fills in: none on a refusal.
+fn to_write(s: Scanned) -> usize
+    ensures { λ r. ⌜ r ≡ written (scannedOf s) ⌝ }
+{
+    match s {
+        Scanned::Filled(n) => n,
+        Scanned::TooLong => 0,
+        Scanned::Fault(_, _) => 0,
+        Scanned::Short => 0,
+    }
+}
+
+// The entry of the record at a place, and the place after it.
+pub struct Listed {
+    pub entry: Entry,
+    pub next: usize,
+}
+
+fn listed_at(pack: &[u8], at: usize) -> Listed
+    ensures { λ r. ⌜ r ≡ listedAt (now (pack .entry)) at ⌝ }
+{
+    let passed = tlv::pass_at(pack, at);
+    let header = passed.header;
+    Listed {
+        entry: Entry {
+            start: at,
+            tag: header.tag,
+            length: header.length,
+        },
+        next: passed.next,
+    }
+}
+
+// The first n entries of a pack that has been checked go to the front of the list.
+fn fill(pack: &[u8], list: &mut [Entry], n: usize)
+    requires { ⌜ n ≤ length (now list) ⌝ }
+    ensures { λ _. ⌜ now (list .exit) ≡ firstEntries n (now (pack .entry)) 0 ++ drop n (now (list .entry)) ⌝ }
+{
+    let mut i = 0;
+    let mut at = 0;
+    while i < n {
+        let listed = listed_at(pack, at);
+        list[i] = listed.entry;
+        at = listed.next;
+        i += 1;
+    }
+}
+
+// One entry a record, in order; entries after those keep their content, and on a refusal all do.
+pub fn scan(pack: &[u8], list: &mut [Entry]) -> Scanned
+    ensures { λ r. ⌜ (scannedOf r ≡ scanned (reading packLimit (now (pack .entry))) (length (now (list .entry))))
+        × (now (list .exit) ≡ listAfter (reading packLimit (now (pack .entry))) (now (list .entry))) ⌝ }
+{
+    let r = fit(check(pack), list.len());
+    let n = to_write(r);
+    fill(pack, list, n);
+    r
+}
+
+// ---- the walker, which yields one record a call
+
+// The lent pack, and the place reached.
+pub struct Walker<'a> {
+    pack: &'a [u8],
+    at: usize,
+}
+
+pub enum Walked {
+    Record(Entry),
+    End,
+    TooLong,
+    Fault(Fault, usize),
+}
+
+// What a call answers, and the place that it leaves the walker at.
+pub struct Turn {
+    pub walked: Walked,
+    pub at: usize,
+}
+
+fn turn_at(pack: &[u8], at: usize) -> Turn
+    ensures { λ r. ⌜ callOf r ≡ turnAt packLimit (now (pack .entry)) at ⌝ }
+{
+    if RecordHeader::LIMIT < pack.len() {
+        return Turn {
+            walked: Walked::TooLong,
+            at,
+        };
+    }
+    match tlv::step_at(pack, at) {
+        Step::End => Turn {
+            walked: Walked::End,
+            at,
+        },
+        Step::Fault(f) => Turn {
+            walked: Walked::Fault(f, at),
+            at,
+        },
+        Step::Record(h) => Turn {
+            walked: Walked::Record(Entry {
+                start: at,
+                tag: h.tag,
+                length: h.length,
+            }),
+            at: at + RecordHeader::LENGTH + h.length as usize,
+        },
+    }
+}
+
+impl<'a> Walker<'a> {
+    pub fn new(pack: &'a [u8]) -> Walker<'a>
+        ensures { λ r. ⌜ (r .pack ≡ pack .entry) × (r .at ≡ 0) ⌝ }
+    {
+        Walker { pack, at: 0 }
+    }
+
+    // The record at the place reached, and on to the next; at the end, or at a fault, the walker
+    // stays, and answers the same at each later call.
+    pub fn next(&mut self) -> Walked
+        ensures { λ r. ⌜ (yieldOf r ≡ turnAt packLimit (now (now (self .entry) .pack)) (now (self .entry) .at) .yield)
+            × ((now (self .exit) .pack ≡ now (self .entry) .pack) × (now (self .exit) .at ≡ turnAt packLimit (now (now (self .entry) .pack)) (now (self .entry) .at) .place)) ⌝ }
+    {
+        let turn = turn_at(self.pack, self.at);
+        self.at = turn.at;
+        turn.walked
+    }
+}
+
+// What the walker answers to its call number n, from 0: for callers that need no walker.
+pub fn nth(pack: &[u8], n: usize) -> Walked
+    ensures { λ r. ⌜ yieldOf r ≡ nthYield (reading packLimit (now (pack .entry))) n ⌝ }
+{
+    let mut w = Walker::new(pack);
+    let mut i = 0;
+    loop {
+        let walked = w.next();
+        if i == n {
+            return walked;
+        }
+        i += 1;
     }
 }

@@ -1,0 +1,84 @@
+-- The scan: how it ends, and what the lent list holds afterwards.
+use Prim.Native.Nat.{ℕ, zero, suc, _+_, _≤_}
+use mathlib.Core.Bool.{cond}
+use mathlib.Core.List.{List, [], _∷_, _++_}
+use mathlib.Core.Path.{_≡_, refl, sym, ap, _∙_}
+use native.Mathlib.Omega.{arith}
+use lib.Dec.{leb}
+use lib.ListN.{length, getD, drop}
+use lib.Seq.{drop-drop}
+use Rattle.tlv.specs.Found.{Found, end, found, fault, step, numberOf}
+use Rattle.tlv.specs.Passing.{passAt, pass-found}
+use Rattle.tlv.specs.declared.RecordHeader.{RecordHeader}
+use Rattle.pack.specs.declared.Entry.{Entry}
+use Rattle.pack.specs.declared.Listed.{Listed}
+use Rattle.pack.specs.declared.Scanned.{Scanned}
+use Rattle.pack.specs.declared.Scanned.the-variants as Scanned
+use Rattle.pack.specs.Reading.{Reading, Ending, whole, refused, records, Outcome, counted, alone, outcome, entryAt, records-end, records-fault, records-found}
+
+-- what each answer of the code says
+abbrev pub scannedOf : Scanned → Outcome
+scannedOf (Scanned.Filled n) = counted n
+scannedOf Scanned.TooLong = refused 1 0
+scannedOf (Scanned.Fault f at) = refused (numberOf f) at
+scannedOf Scanned.Short = alone 19
+
+-- an outcome, with a list of so many entries lent: 19 comes after all others
+abbrev pub fitted : Outcome → ℕ → Outcome
+fitted (counted n) room = cond (leb n room) (counted n) (alone 19)
+fitted (refused n at) room = refused n at
+fitted (alone n) room = alone n
+
+abbrev pub scanned : Reading → ℕ → Outcome
+scanned r room = fitted (outcome r) room
+
+-- how many entries are written, of a list of so many
+abbrev pub written : Outcome → ℕ
+written (counted n) = n
+written (refused n at) = 0
+written (alone n) = 0
+
+-- the list at exit: the entries of an accepted pack, where it has room for all, and after them what it held
+abbrev pub listed : Ending → List Entry → List Entry → List Entry
+listed whole es list = cond (leb (length es) (length list)) (es ++ drop (length es) list) list
+listed (refused n at) es list = list
+
+abbrev pub listAfter : Reading → List Entry → List Entry
+listAfter r list = listed (r .ending) (r .entries) list
+
+-- ---- a second pass over a checked pack, which computes no hash
+
+-- the entry of the record at a place, and the place after it
+unfoldable pub listedAt : List ℕ → ℕ → Listed
+listedAt s at = record { entry = entryAt at (passAt s at .header); next = passAt s at .next }
+
+-- the first n entries from a place on
+unfoldable pub firstEntries : ℕ → List ℕ → ℕ → List Entry
+firstEntries zero s at = []
+firstEntries (suc n) s at = listedAt s at .entry ∷ firstEntries n s (listedAt s at .next)
+
+listed-found : (s : List ℕ) (at : ℕ) (h : RecordHeader) → step (drop at s) ≡ found h → listedAt s at ≡ record { entry = entryAt at h; next = at + (32 + h .length) }
+unfolding listedAt
+listed-found s at h e =
+    let place : at + 32 + h .length ≡ at + (32 + h .length) = omega arith in
+    rw (pass-found s at h e, place)
+
+none-first : (e : Entry) (es fs : List Entry) → _≡_ {A = List Entry} [] (e ∷ es) → fs ≡ e ∷ es
+none-first e es fs p = absurd (let z : _≡_ {A = ℕ} 0 (suc (length es)) = ap length p in omega arith)
+
+-- they are the entries of the reading
+pub first-entries : (es : List Entry) (s : List ℕ) (at : ℕ) → records at 0 (drop at s) .entries ≡ es → firstEntries (length es) s at ≡ es
+unfolding firstEntries
+first-entries [] s at e = refl
+first-entries (d ∷ es) s at e = go (step (drop at s)) refl (λ p. first-entries es s p)
+  where
+    go : (f : Found) → step (drop at s) ≡ f → ((p : ℕ) → records p 0 (drop p s) .entries ≡ es → firstEntries (length es) s p ≡ es) → listedAt s at .entry ∷ firstEntries (length es) s (listedAt s at .next) ≡ d ∷ es
+    go end there more = none-first d es _ (sym (ap (λ (r : Reading). r .entries) (records-end at (drop at s) there)) ∙ e)
+    go (fault n) there more = none-first d es _ (sym (ap (λ (r : Reading). r .entries) (records-fault at (drop at s) n there)) ∙ e)
+    go (found h) there more =
+        let rest = drop (32 + h .length) (drop at s) in
+        let left : rest ≡ drop (at + (32 + h .length)) s = drop-drop (32 + h .length) at s in
+        let one : entryAt at h ∷ records (at + (32 + h .length)) 0 rest .entries ≡ d ∷ es = sym (ap (λ (r : Reading). r .entries) (records-found at (drop at s) h there)) ∙ e in
+        let first : entryAt at h ≡ d = ap (λ (l : List Entry). getD l 0 d) one in
+        let others : records (at + (32 + h .length)) 0 (drop (at + (32 + h .length)) s) .entries ≡ es = rw left at (ap (drop 1) one) in
+        rw (listed-found s at h there) (λ i. first i ∷ more (at + (32 + h .length)) others i)

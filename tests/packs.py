@@ -1,0 +1,102 @@
+"""Packs by document 01's layout, for samples/make and the tests.
+
+Plain Python, written from the public specifications; no part of what is proved.
+"""
+
+M64 = 2**64 - 1
+P1, P2, P3, P4, P5 = (
+    0x9E3779B185EBCA87,
+    0xC2B2AE3D27D4EB4F,
+    0x165667B19E3779F9,
+    0x85EBCA77C2B2AE63,
+    0x27D4EB2F165667C5,
+)
+
+
+def left(x, n):
+    return (x << n | x >> (64 - n)) & M64
+
+
+def mixed(lane, word):
+    return left((lane + word * P2) & M64, 31) * P1 & M64
+
+
+def xxh64(data):
+    """XXH64 with seed 0."""
+
+    def little(at, width):
+        return int.from_bytes(data[at : at + width], "little")
+
+    at, n = 0, len(data)
+    h = P5
+    if n >= 32:
+        lanes = [(P1 + P2) & M64, P2, 0, -P1 & M64]
+        while n - at >= 32:
+            lanes = [mixed(lane, little(at + 8 * i, 8)) for i, lane in enumerate(lanes)]
+            at += 32
+        h = sum(left(lane, r) for lane, r in zip(lanes, (1, 7, 12, 18))) & M64
+        for lane in lanes:
+            h = ((h ^ mixed(0, lane)) * P1 + P4) & M64
+    h = (h + n) & M64
+    while n - at >= 8:
+        h = (left(h ^ mixed(0, little(at, 8)), 27) * P1 + P4) & M64
+        at += 8
+    if n - at >= 4:
+        h = (left(h ^ little(at, 4) * P1 & M64, 23) * P2 + P3) & M64
+        at += 4
+    for byte in data[at:]:
+        h = left(h ^ byte * P5 & M64, 11) * P1 & M64
+    h = (h ^ h >> 33) * P2 & M64
+    h = (h ^ h >> 29) * P3 & M64
+    return h ^ h >> 32
+
+
+def head(n, short, limit, forms):
+    """n in one byte below the limit, else in the first of the forms (byte, width) that holds it."""
+    if n < limit:
+        return bytes([short + n])
+    byte, width = next(form for form in forms if n < 256 ** form[1])
+    return bytes([byte]) + n.to_bytes(width, "big")
+
+
+def item(x):
+    """A MessagePack item in its shortest form; the keys of a map in the order given."""
+    if isinstance(x, bool):
+        return b"\xc3" if x else b"\xc2"
+    if isinstance(x, int):
+        return head(x, 0x00, 128, [(0xCC, 1), (0xCD, 2), (0xCE, 4), (0xCF, 8)])
+    if isinstance(x, bytes):
+        return head(len(x), 0, 0, [(0xC4, 1), (0xC5, 2), (0xC6, 4)]) + x
+    if isinstance(x, str):
+        text = x.encode()
+        return head(len(text), 0xA0, 32, [(0xD9, 1), (0xDA, 2), (0xDB, 4)]) + text
+    if isinstance(x, list):
+        return head(len(x), 0x90, 16, [(0xDC, 2), (0xDD, 4)]) + b"".join(map(item, x))
+    pairs = b"".join(item(key) + item(value) for key, value in x.items())
+    return head(len(x), 0x80, 16, [(0xDE, 2), (0xDF, 4)]) + pairs
+
+
+def header(tag, length, value_hash, version=0, hash_type=8, spare=0):
+    """The 32 bytes before a value, with their own hash right."""
+    fields = b"\x89TLV\r\n\x1a\n" + length.to_bytes(8, "big") + value_hash.to_bytes(8, "big")
+    fields += bytes([version]) + tag + bytes([hash_type]) + spare.to_bytes(2, "big")
+    return fields + (xxh64(fields) % 65536).to_bytes(2, "big")
+
+
+def record(tag, value):
+    return header(tag, len(value), xxh64(value)) + value
+
+
+def block(ulid, bucket, name, data):
+    primary = item({"I": ulid + ":" + bucket + "/" + name})
+    return record(b"bk", item({"s": [{"l": len(data)}], "e": primary}) + data)
+
+
+def version(ulid, bucket, name, **more):
+    primary = item({"b": bucket, "o": name, "v": ulid, **more})
+    return record(b"vr", item({"e": primary}))
+
+
+def version_delete(ulid, bucket, name, delete_ulid):
+    primary = item({"b": bucket, "o": name, "v": ulid, "???": delete_ulid})
+    return record(b"vd", item({"e": primary}))
