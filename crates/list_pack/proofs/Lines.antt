@@ -1,11 +1,12 @@
 -- The parts of a line, put one after the other, are the line.
-use Prim.Native.Nat.{ℕ, _+_, _≤_}
+use Prim.Native.Nat.{ℕ, _+_, _*_, _≤_, _<_}
 use mathlib.Core.List.{List, _++_}
+use mathlib.Core.Path.{_≡_, refl, sym, subst, _∙_}
 use native.Mathlib.Omega.{arith}
-use lib.ListN.{length, length-append}
+use lib.ListN.{length, getD, take, length-append}
 use Rattle.pack.specs.declared.Entry.{Entry}
-use Rattle.list_pack.specs.Put.{Put, put-then}
-use Rattle.list_pack.specs.Text.{decimal, hex4, space, newline, recordsWord, refusedWord, atWord, line, countLine, refusalLine, decimal-length, hex4-length}
+use Rattle.list_pack.specs.Put.{Put, put-none, put-length, put-then}
+use Rattle.list_pack.specs.Text.{decimal, hex4, space, newline, recordsWord, refusedWord, atWord, line, lines, countLine, refusalLine, decimal-length, hex4-length, line-length, lines-more}
 
 module _ {s0 s1 s2 s3 : List ℕ} {at m1 m2 m3 : ℕ} where
   pub count-put : (n : ℕ) → at + 29 ≤ length s0 → Put s0 at recordsWord s1 m1 → Put s1 m1 (decimal n) s2 m2 → Put s2 m2 newline s3 m3 → Put s0 at (countLine n) s3 m3
@@ -41,3 +42,29 @@ module _ {s0 s1 s2 s3 : List ℕ} {at m1 m2 m3 : ℕ} where
           let l3 = length-append (decimal (e .start) ++ space ++ hex4 (e .tag)) space in
           let l4 = length-append (decimal (e .start) ++ space ++ hex4 (e .tag) ++ space) (decimal (e .length)) in
           put-then (omega arith) (put-then (omega arith) (put-then (omega arith) (put-then (omega arith) (put-then (omega arith) p q) r) t) u) v
+
+-- ---- one line more
+
+abbrev pub noEntry : Entry
+noEntry = record { start = 0; tag = 0; length = 0 }
+
+pub record Lines (s0 : List ℕ) (es : List Entry) (i : ℕ) (s : List ℕ) (at : ℕ) : Type 0 where
+  pub same : length s ≡ length s0
+  pub short : at ≤ 47 * i
+  pub so-far : Put s0 0 (lines (take i es)) s at
+
+pub no-lines : (s0 : List ℕ) (es : List Entry) → Lines s0 es 0 s0 0
+unfolding lines
+no-lines s0 es = record { same = refl; short = omega arith; so-far = put-none s0 }
+
+pub more-lines : {s0 s s′ : List ℕ} {at next : ℕ} (es : List Entry) (i : ℕ) → i < length es → i < 2048 → 96256 ≤ length s0 → Lines s0 es i s at → Put s at (line (getD es i noEntry)) s′ next → Lines s0 es (i + 1) s′ next
+more-lines {s0} {s} {s′} {at} {next} es i there few room v p =
+    let l = line-length (getD es i noEntry) in
+    let b : at ≤ 47 * i = v .short in
+    let m : length s ≡ length s0 = v .same in
+    let fits : at + length (line (getD es i noEntry)) ≤ length s = omega arith in
+    record {
+      same = put-length fits p ∙ m;
+      short = omega (arith, p .place);
+      so-far = subst (λ (t : List ℕ). Put s0 0 t s′ next) (sym (lines-more es i noEntry there)) (put-then (omega (arith, v .so-far .place)) (v .so-far) p);
+    }

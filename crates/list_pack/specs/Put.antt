@@ -1,7 +1,7 @@
 -- Text put at a place of a buffer.
 use Prim.Native.Nat.{ℕ, _+_, _≤_}
-use mathlib.Core.List.{List, _++_}
-use mathlib.Core.Path.{_≡_, ap, sym, _∙_}
+use mathlib.Core.List.{List, [], _++_}
+use mathlib.Core.Path.{_≡_, refl, ap, _∙_}
 use native.Mathlib.Omega.{arith}
 use lib.ListN.{length, length-append}
 use Rattle.endian.specs.Places.{overwritten, length-overwritten, overwritten-more}
@@ -20,3 +20,8 @@ put-then {old} {at} {t} {mid} {m} {u} h p q = record {
   place = rw length-append (omega (arith, p .place, q .place));
   bytes = q .bytes ∙ (λ i. overwritten (p .bytes i) (p .place i) u) ∙ overwritten-more old at t u h;
 }
+
+-- nothing has been put yet
+pub put-none : (s : List ℕ) → Put s 0 [] s 0
+unfolding overwritten
+put-none s = record { place = refl; bytes = refl }

@@ -1,13 +1,15 @@
 -- The listing of a pack, as document 01's "The listing" has it: the bytes that the program writes.
 use Prim.Native.Nat.{ℕ, zero, suc, _+_, _-_, _*_, _/_, _%_, _^_, _≤_, _<_}
 use mathlib.Core.Bool.{Bool, true, false, cond}
-use mathlib.Core.List.{List, [], _∷_, _++_}
+use mathlib.Core.List.{List, [], _∷_, _++_, append-assoc, append-nil}
 use lib.Dec.{leb, ltb, lit<}
-use mathlib.Core.Path.{_≡_, refl, ap}
+use mathlib.Core.Path.{_≡_, refl, sym, ap}
 use native.Mathlib.Nat.{pow-suc, one-le-pow, pow-le-pow-right}
 use native.Mathlib.Omega.{arith}
 use borrow.Author.Tests.{lt-ltb, le-ltb, leb-true, leb-false}
-use lib.ListN.{length, length-append}
+use native.Mathlib.Numerals.{add-one}
+use lib.ListN.{length, getD, take, length-append}
+use lib.Seq.{take-suc}
 use Rattle.io.specs.Digits.{digits, glyph, Fewest}
 use Rattle.pack.specs.declared.Entry.{Entry}
 use Rattle.pack.specs.Reading.{Reading, Ending, whole, refused}
@@ -114,3 +116,25 @@ places-most b least n k m pos h few f = go (leb k m) refl
         let j : m ≤ k - 1 = omega arith in
         let p : b ^ m ≤ b ^ (k - 1) = pow-le-pow-right pos j in
         absurd (omega (arith, f .2 (omega arith)))
+
+pub line-length : (e : Entry) → length (line e) ≤ 47
+unfolding line
+line-length e = simp length-append (omega (arith, decimal-length (e .start), decimal-length (e .length)))
+
+pub count-length : (n : ℕ) → length (countLine n) ≤ 29
+unfolding countLine
+count-length n = simp length-append (omega (arith, decimal-length n))
+
+pub refusal-length : (n place : ℕ) → length (refusalLine n place) ≤ 53
+unfolding refusalLine
+refusal-length n place = simp length-append (omega (arith, decimal-length n, decimal-length place))
+
+-- one line more
+pub lines-append : (es ds : List Entry) → lines (es ++ ds) ≡ lines es ++ lines ds
+unfolding lines
+lines-append [] ds = refl
+lines-append (e ∷ es) ds = rw (lines-append es ds) (sym (append-assoc (line e) (lines es) (lines ds)))
+
+pub lines-more : (es : List Entry) (i : ℕ) (d : Entry) → i < length es → lines (take (i + 1) es) ≡ lines (take i es) ++ line (getD es i d)
+unfolding lines
+lines-more es i d h = rw (add-one, take-suc es i d h, lines-append, append-nil)

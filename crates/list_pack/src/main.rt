@@ -3,8 +3,15 @@ ghost use mathlib.Core.Path.{_≡_};
 ghost use Prim.Native.Nat.{_+_, _*_, _≤_};
 ghost use lib.ListN.{length, take};
 ghost use Rattle.list_pack.specs.Put.{Put};
-ghost use Rattle.list_pack.specs.Text.{decimal, hex4, line, lines, countLine, refusalLine};
+ghost use Rattle.list_pack.specs.Text.{decimal, hex4, line, lines, countLine, refusalLine, text};
+ghost use Rattle.pack.specs.Reading.{reading, packLimit};
+ghost use Rattle.pack.specs.Scan.{scannedOf, scanned, listAfter};
+ghost use Rattle.list_pack.specs.Listing.{noEntries, Fits};
+use libc::STDERR_FILENO;
+use libc::STDIN_FILENO;
+use libc::STDOUT_FILENO;
 use pack::Entry;
+use pack::Scanned;
 
 // Each of the functions below writes at a place of a buffer that has room, and answers the place
 // after what it wrote.
@@ -67,4 +74,133 @@ fn put_refusal(out: &mut [u8], number: u8, place: usize) -> usize
     put(out, end, b"\n")
 }
 
-fn main() {}
+// ---- the records of the pack
+
+// How a scan ended, and the list that was lent to it.
+pub struct Listing {
+    pub scanned: Scanned,
+    pub entries: [Entry; 2048],
+}
+
+fn no_entries() -> [Entry; 2048]
+    ensures { λ r. ⌜ r ≡ noEntries ⌝ }
+{
+    [Entry {
+        start: 0,
+        tag: 0,
+        length: 0,
+    }; 2048]
+}
+
+fn scan_all(pack: &[u8]) -> Listing
+    ensures { λ r. ⌜ (scannedOf (r .scanned) ≡ scanned (reading packLimit (now (pack .entry))) 2048)
+        × (r .entries ≡ listAfter (reading packLimit (now (pack .entry))) noEntries) ⌝ }
+{
+    let mut entries = no_entries();
+    let scanned = pack::scan(pack, &mut entries);
+    Listing { scanned, entries }
+}
+
+// A line an entry, for the first n of them.
+fn put_lines(out: &mut [u8], entries: [Entry; 2048], n: usize) -> usize
+    requires { ⌜ ((n ≤ 2048) × (n ≤ length entries)) × (96256 ≤ length (now out)) ⌝ }
+    ensures { λ r. ⌜ Put (now (out .entry)) 0 (lines (take n entries)) (now (out .exit)) r × (r ≤ 96256) ⌝ }
+{
+    let mut at = 0;
+    let mut i = 0;
+    while i < n {
+        let e = entries[i];
+        at = put_line(out, at, e);
+        i += 1;
+    }
+    at
+}
+
+// The whole text. A pack of this length has at most 2,048 records, so that the list is never too
+// short.
+fn put_listing(out: &mut [u8], pack: &[u8]) -> usize
+    requires { ⌜ (length (now pack) ≤ 65536) × (98304 ≤ length (now out)) ⌝ }
+    ensures { λ r. ⌜ Put (now (out .entry)) 0 (text (reading packLimit (now (pack .entry)))) (now (out .exit)) r × (r ≤ 98304) ⌝ }
+{
+    let listing = scan_all(pack);
+    let scanned = listing.scanned;
+    let entries = listing.entries;
+    match scanned {
+        Scanned::Filled(n) => {
+            let at = put_lines(out, entries, n);
+            put_count(out, at, n)
+        }
+        Scanned::TooLong => put_refusal(out, 1, 0),
+        Scanned::Fault(f, at) => put_refusal(out, tlv::number(f), at),
+        Scanned::Short => 0,
+    }
+}
+
+// ---- the program
+
+fn show(pack: &[u8])
+    requires { ⌜ length (now pack) ≤ 65536 ⌝ }
+{
+    let mut out = [0u8; 98304];
+    let n = put_listing(&mut out, pack);
+    io::write_all(STDOUT_FILENO, &out[..n]);
+}
+
+fn show_too_long() {
+    let mut out = [0u8; 64];
+    let n = put_refusal(&mut out, 1, 0);
+    io::write_all(STDOUT_FILENO, &out[..n]);
+}
+
+fn show_failure() {
+    io::write_all(STDERR_FILENO, b"list_pack: standard input cannot be read\n");
+}
+
+pub enum Input {
+    Bytes(usize),
+    Failed,
+}
+
+// Reads until the buffer is full or the input ends: a read may give fewer bytes than there are.
+fn read_input(buffer: &mut [u8]) -> Input
+    ensures { λ r. ⌜ Fits r (length (now (buffer .entry))) ⌝ }
+{
+    let mut n: usize = 0;
+    while n < buffer.len() {
+        let got = libc::read(STDIN_FILENO, &mut buffer[n..]);
+        if got < 0 {
+            return Input::Failed;
+        }
+        let more = io::count(got, &buffer[n..]);
+        if more == 0 {
+            return Input::Bytes(n);
+        }
+        n += more;
+    }
+    Input::Bytes(n)
+}
+
+// What was read is listed, if it is all that there is.
+fn list(pack: &[u8])
+    requires { ⌜ length (now pack) ≤ 65536 ⌝ }
+{
+    let mut next = [0u8; 1];
+    match read_input(&mut next) {
+        Input::Bytes(more) => {
+            if more == 0 {
+                show(pack);
+            } else {
+                show_too_long();
+            }
+        }
+        Input::Failed => show_failure(),
+    }
+}
+
+fn main() {
+    let mut buffer = [0u8; 65536];
+    match read_input(&mut buffer) {
+        Input::Bytes(n) => list(&buffer[..n]),
+        Input::Failed => show_failure(),
+    }
+}

@@ -4,7 +4,7 @@ ghost use Prim.Native.Nat.{_+_, _≤_, _<_, _^_};
 ghost use lib.Dec.{leb};
 ghost use lib.ListN.{length, drop};
 ghost use Rattle.tlv.specs.Layout.{field};
-ghost use Rattle.tlv.specs.Found.{header, step, made, noHeader, fieldsOf, found, unless, lowest, valueRows, foundHeader, foundStep};
+ghost use Rattle.tlv.specs.Found.{header, step, made, noHeader, fieldsOf, found, unless, lowest, valueRows, numberOf, foundHeader, foundStep};
 ghost use Rattle.tlv.specs.Passing.{inside, passAt};
 use endian::Number;
 
@@ -17,6 +17,21 @@ pub enum Fault {
     HeaderHash,
     ValueCut,
     ValueHash,
+}
+
+// The number of a refusal, as document 01 has it.
+pub fn number(f: Fault) -> u8
+    ensures { λ r. ⌜ r ≡ numberOf f ⌝ }
+{
+    match f {
+        Fault::HeaderCut => 2,
+        Fault::Magic => 3,
+        Fault::Version => 4,
+        Fault::HashType => 5,
+        Fault::HeaderHash => 6,
+        Fault::ValueCut => 7,
+        Fault::ValueHash => 8,
+    }
 }
 
 // What a header says of its record: the tag, and the length and the hash of the value.

@@ -1,0 +1,9 @@
+use borrow.Author.Needs.{needs}
+use Rattle.list_pack.proofs.no_entries.Statement.{statement}
+use Rattle.list_pack.proofs.no_entries.Tie as tie
+
+returns : tie.Need-returns
+returns c = search needs
+
+pub no-entries-spec : {M : Type 1} → statement M
+no-entries-spec = tie.close (tie.spec returns)
