@@ -48,6 +48,7 @@ filled r n e = by (r .ending) refl e
     fit : (t : Bool) → leb (length (r .entries)) 2048 ≡ t → counted n ≡ cond t (counted (length (r .entries))) (alone 19) → r .ending ≡ whole → Filled r n
     fit true p q w = record { accepted = w; count = counted-same q; few = omega (arith, leb-true (length (r .entries)) 2048 p, counted-same q) }
     fit false p q w = counted-alone q
+
     by : (f : Ending) → r .ending ≡ f → counted n ≡ scanned (record { entries = r .entries; ending = f }) 2048 → Filled r n
     by whole w q = fit (leb (length (r .entries)) 2048) refl q w
     by (refused m p) w q = counted-refused q
@@ -58,6 +59,7 @@ refusal r n p e = by (r .ending) refl e
     fit : (t : Bool) → refused n p ≡ cond t (counted (length (r .entries))) (alone 19) → r .ending ≡ refused n p
     fit true q = counted-refused (sym q)
     fit false q = refused-alone q
+
     by : (f : Ending) → r .ending ≡ f → refused n p ≡ scanned (record { entries = r .entries; ending = f }) 2048 → r .ending ≡ refused n p
     by whole w q = fit (leb (length (r .entries)) 2048) q
     by (refused m o) w q = w ∙ refused-same q
@@ -75,6 +77,7 @@ never-short s bytes h e = by (reading packLimit s .ending) refl e
   where
     r : Reading
     r = reading packLimit s
+
     by : (f : Ending) → reading packLimit s .ending ≡ f → alone 19 ≡ scanned (record { entries = reading packLimit s .entries; ending = f }) 2048 → ⊥
     by whole w q = counted-alone (sym (q ∙ ap (λ (t : Bool). cond t (counted (length (reading packLimit s .entries))) (alone 19)) (le-leb (length (reading packLimit s .entries)) 2048 (few-entries s bytes h w))))
     by (refused m p) w q = refused-alone (sym q)
