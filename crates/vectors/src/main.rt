@@ -4,6 +4,8 @@ ghost use mathlib.Core.Path.{_≡_};
 ghost use lib.ListN.{length};
 use libc::STDOUT_FILENO;
 
+mod msgpack_vectors;
+
 // The input of the hash vectors: the byte at k is 73 k + 5, modulo 256.
 fn input() -> [u8; 222]
     ensures { λ r. ⌜ 222 ≡ length r ⌝ }
@@ -54,4 +56,5 @@ fn hashes(input: &[u8]) {
 fn main() {
     let bytes = input();
     hashes(&bytes);
+    msgpack_vectors::run();
 }

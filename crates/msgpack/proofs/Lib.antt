@@ -1,0 +1,6 @@
+mod Heads
+mod Passing
+mod Integers
+mod Comparing
+mod Writing
+mod Finding

@@ -1,0 +1,57 @@
+-- The value of a text key in a map: keys are compared as bytes, in every width of text, and of a repeated key the last counts (document 01, "The value").
+use Prim.Native.Nat.{ℕ, zero, suc, _+_}
+use mathlib.Core.Bool.{Bool, true, false, cond}
+use mathlib.Core.List.{List, [], _∷_}
+use mathlib.Core.Option.{Option, none, some}
+use lib.Dec.{eqb}
+use lib.ListN.{drop}
+use Rattle.msgpack.specs.Formats.{mapKind}
+use Rattle.msgpack.specs.Items.{Passage, whole, cut, tooDeep, headOf, passItem, depthAllowed}
+use Rattle.msgpack.specs.Readers.{Part, content, readText}
+use Rattle.msgpack.specs.declared.Found.{Found}
+use Rattle.msgpack.specs.declared.Found.the-variants as found-answer
+
+unfoldable pub sameBytes : List ℕ → List ℕ → Bool
+sameBytes [] [] = true
+sameBytes [] (y ∷ t) = false
+sameBytes (x ∷ s) [] = false
+sameBytes (x ∷ s) (y ∷ t) = cond (eqb x y) (sameBytes s t) false
+
+abbrev pub contentIs : List ℕ → List ℕ → Option Part → Bool
+contentIs key s (some p) = sameBytes (content s p) key
+contentIs key s none = false
+
+-- whether the text `key` stands at the front
+unfoldable pub keyAt : List ℕ → List ℕ → Bool
+keyAt key s = contentIs key s (readText s)
+
+-- where a value stands
+pub data Place : Type 0 where
+  found : ℕ → Place
+  missing : Place
+  broken : Place  -- no whole map is there
+
+abbrev pub placeOf : Found → Place
+placeOf (found-answer.At n) = found n
+placeOf found-answer.Missing = missing
+placeOf found-answer.Broken = broken
+
+abbrev pub ifWhole : Passage → (ℕ → Place) → Place
+ifWhole (whole n) next = next n
+ifWhole cut next = broken
+ifWhole tooDeep next = broken
+
+-- of so many pairs at the front of s, which begins at `from` of the whole list, the place of the last value whose key passes the test; `best` where there is none
+unfoldable pub lastWhere : (List ℕ → Passage) → (List ℕ → Bool) → ℕ → ℕ → List ℕ → Place → Place
+lastWhere item test zero from s best = best
+lastWhere item test (suc count) from s best =
+    ifWhole (item s) λ k.
+    ifWhole (item (drop k s)) λ m.
+    lastWhere item test count (from + k + m) (drop (k + m) s) (cond (test s) (found (from + k)) best)
+
+-- the last value of the text `key` in the map at the front
+unfoldable pub lastValue : List ℕ → List ℕ → Place
+lastValue key s =
+    cond (eqb (headOf s .kind) mapKind)
+    (lastWhere (passItem depthAllowed) (keyAt key) (headOf s .count) (headOf s .size) (drop (headOf s .size) s) missing)
+    broken

@@ -1,0 +1,122 @@
+-- Too deep, both ways: the definition says so exactly where the relation does.
+use Prim.Native.Nat.{ℕ, zero, suc, _+_, _-_, _≤_, _<_}
+use mathlib.Core.List.{List, [], _++_, append-assoc}
+use mathlib.Core.Path.{_≡_, refl, sym, ap, _∙_}
+use native.Mathlib.Omega.{arith}
+use lib.ListN.{length, take, drop, take-append-drop}
+use lib.Seq.{drop-append-seam}
+use Rattle.endian.specs.Bytes.{AllBytes, drop-bytes}
+use Rattle.msgpack.specs.Formats.{arrayKind, mapKind}
+use Rattle.msgpack.specs.Items.{Head, Passage, whole, cut, tooDeep, head, headOf, itemsOf, andThen, passItems, passItem}
+use Rattle.msgpack.specs.HeadLaws.{absurd-numbers}
+use Rattle.msgpack.specs.PassingLaws.{beyond-deep, head-deep, too-deep, within-container}
+use Rattle.msgpack_model.specs.Values.{Values, no-values, value, countValues, valuesDepth}
+use Rattle.msgpack_model.specs.Encoding.{EncodesValues, none, next, Opens, opens-array, opens-map, TooDeep, here, inside}
+use Rattle.msgpack_model.specs.Heads.{array-begins, map-begins}
+use Rattle.msgpack_model.specs.Complete.{complete}
+use Rattle.msgpack_model.specs.Rows.{Front, no-item, scalar-item, array-item, map-item, front}
+use Rattle.msgpack_model.specs.Sound.{EncodesWithin, sound}
+
+-- ---- where the relation holds
+
+-- the kind and count of a container's head, whatever follows
+record Opened (count : ℕ) (h : List ℕ) : Type 0 where
+  kind : ℕ
+  number : ℕ
+  is-container : arrayKind ≤ kind
+  items : itemsOf kind number ≡ count
+  begun : (rest : List ℕ) → headOf (h ++ rest) ≡ head kind (length h) number
+
+opened : {count : ℕ} {h : List ℕ} → Opens count h → Opened count h
+opened (opens-array {n = n} x) = record { kind = arrayKind; number = n; is-container = omega arith; items = refl; begun = array-begins x }
+opened (opens-map {n = n} x) = record { kind = mapKind; number = n; is-container = omega arith; items = refl; begun = map-begins x }
+
+-- items that are whole, and those after them
+after-whole : {vs : Values} {e : List ℕ} → EncodesValues vs e → (a : ℕ) → valuesDepth vs ≤ a → (more : ℕ) (t : List ℕ) → passItems (passItem a) more t ≡ tooDeep → passItems (passItem a) (countValues vs + more) (e ++ t) ≡ tooDeep
+unfolding passItems
+after-whole none a d more t p = let z : 0 + more ≡ more = omega arith in rw z p
+after-whole (next {vs = vs} {e = e} {f = f} x xs) a d more t p =
+    let z : suc (countValues vs) + more ≡ suc (countValues vs + more) = omega arith in
+    rw (z, append-assoc e f t, complete x a (omega arith) (f ++ t), drop-append-seam e (f ++ t), after-whole xs a (omega arith) more t p)
+
+first-deep : (item : List ℕ → Passage) (more : ℕ) (t : List ℕ) → item t ≡ tooDeep → passItems item (suc more) t ≡ tooDeep
+unfolding passItems
+first-deep item more t p = rw p
+
+pub deep : {a : ℕ} {s : List ℕ} → TooDeep a s → passItem a s ≡ tooDeep
+deep (here {h = h} x rest) = let o = opened x in sym (too-deep 0 (h ++ rest) (head (o .kind) (length h) (o .number)) (sym (o .begun rest)) (o .is-container) refl)
+deep (inside {a = a} {count = count} {h = h} {e = e} {t = t} {vs = vs} x xs d l y) =
+    let o = opened x in
+    let more : ℕ = count - suc (countValues vs) in
+    let z : count ≡ countValues vs + suc more = omega arith in
+    let p : passItems (passItem a) count (e ++ t) ≡ tooDeep = rw z (after-whole xs a d (suc more) t (first-deep (passItem a) more t (deep y))) in
+    sym (within-container a (h ++ (e ++ t)) (head (o .kind) (length h) (o .number)) (sym (o .begun (e ++ t))) (o .is-container))
+    ∙ rw (drop-append-seam h (e ++ t), o .items, p)
+
+-- ---- where the definition says so
+
+-- the first item that is too deep, and those before it
+record First (a count : ℕ) (s : List ℕ) : Type 0 where
+  before : List ℕ
+  after : List ℕ
+  values : Values
+  split : s ≡ before ++ after
+  encoded : EncodesValues values before
+  shallow : valuesDepth values ≤ a
+  fewer : countValues values < count
+  too-deep-there : passItem a after ≡ tooDeep
+  bytes-after : AllBytes after
+
+module _ (a : ℕ) where
+  one-earlier : (count n : ℕ) (s : List ℕ) → EncodesWithin a (take n s) → First a count (drop n s) → First a (suc count) s
+  one-earlier count n s x y = record {
+    before = take n s ++ y .before;
+    after = y .after;
+    values = value (x .value) (y .values);
+    split = sym (take-append-drop n s) ∙ ap (λ t. take n s ++ t) (y .split) ∙ sym (append-assoc (take n s) (y .before) (y .after));
+    encoded = next (x .encoded) (y .encoded);
+    shallow = omega (arith, x .shallow, y .shallow);
+    fewer = omega (arith, y .fewer);
+    too-deep-there = y .too-deep-there;
+    bytes-after = y .bytes-after;
+  }
+
+  first-by : (count : ℕ) (s : List ℕ) → ((t : List ℕ) → AllBytes t → passItems (passItem a) count t ≡ tooDeep → First a count t) → AllBytes s
+      → (r : Passage) → passItem a s ≡ r → andThen r (λ n. passItems (passItem a) count (drop n s)) ≡ tooDeep → First a (suc count) s
+  first-by count s more bytes (whole n) e q = one-earlier count n s (sound a s n bytes e) (more (drop n s) (drop-bytes n bytes) (beyond-deep n (passItems (passItem a) count (drop n s)) q))
+  first-by count s more bytes cut e q = absurd-numbers (cc)
+  first-by count s more bytes tooDeep e q =
+      record { before = []; after = s; values = no-values; split = refl; encoded = none; shallow = omega arith; fewer = omega arith; too-deep-there = e; bytes-after = bytes }
+
+  first-item : (count : ℕ) (s : List ℕ) → AllBytes s → passItems (passItem a) count s ≡ tooDeep → First a count s
+  unfolding passItems
+  first-item zero s bytes p = absurd-numbers (cc)
+  first-item (suc count) s bytes p = first-by count s (first-item count) bytes (passItem a s) refl p
+
+-- a container's head at the front
+opens-front : (s : List ℕ) (h : Head) → Front s h → arrayKind ≤ h .kind → Opens (itemsOf (h .kind) (h .count)) (take (h .size) s)
+opens-front s h (no-item g z) l = absurd (omega arith)
+opens-front s h (scalar-item kind size count k x) l = absurd (omega arith)
+opens-front s h (array-item size count k x) l = opens-array x
+opens-front s h (map-item size count k x) l = opens-map x
+
+deep-inside : (a : ℕ) → ((s : List ℕ) → AllBytes s → passItem a s ≡ tooDeep → TooDeep a s) → (s : List ℕ) (size count : ℕ) → AllBytes s → Opens count (take size s) → passItems (passItem a) count (drop size s) ≡ tooDeep → TooDeep (suc a) s
+deep-inside a more s size count bytes x p =
+    let f = first-item a count (drop size s) (drop-bytes size bytes) p in
+    rw (← f .split, take-append-drop) at (inside x (f .encoded) (f .shallow) (f .fewer) (more (f .after) (f .bytes-after) (f .too-deep-there)))
+
+pub deep-means : (a : ℕ) (s : List ℕ) → AllBytes s → passItem a s ≡ tooDeep → TooDeep a s
+unfolding passItem
+deep-means zero s bytes p =
+    let d = head-deep _ (headOf s) s p in
+    rw take-append-drop at (here (opens-front s (headOf s) (front s bytes) (d .0)) (drop (headOf s .size) s))
+deep-means (suc a) s bytes p =
+    let d = head-deep _ (headOf s) s p in
+    deep-inside a (deep-means a) s (headOf s .size) (itemsOf (headOf s .kind) (headOf s .count)) bytes (opens-front s (headOf s) (front s bytes) (d .0)) (d .1)
+
+-- what follows plays no part
+pub deep-more : {a : ℕ} {s : List ℕ} → TooDeep a s → (t : List ℕ) → TooDeep a (s ++ t)
+deep-more (here {h = h} x rest) t = rw append-assoc (here x (rest ++ t))
+deep-more (inside {h = h} {e = e} {t = r} x xs d l y) t =
+    let joined : (h ++ (e ++ r)) ++ t ≡ h ++ (e ++ (r ++ t)) = simp append-assoc in
+    rw joined (inside x xs d l (deep-more y t))

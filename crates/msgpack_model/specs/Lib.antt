@@ -1,0 +1,14 @@
+pub mod Values
+pub mod Encoding
+pub mod Heads
+pub mod Complete
+pub mod Rows
+pub mod Sound
+pub mod Deep
+pub mod Passing
+pub mod Scalars
+pub mod Unique
+pub mod Readers
+pub mod Lookup
+pub mod Writers
+pub mod Range
