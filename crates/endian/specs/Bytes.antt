@@ -1,7 +1,12 @@
--- Lists whose elements are bytes.
+-- Lists whose elements are bytes, and two lists compared byte by byte.
 use Prim.Native.Nat.{ℕ, zero, suc, _+_, _<_}
+use mathlib.Core.Path.{_≡_, refl, sym}
+use mathlib.Core.Bool.{Bool, true, false, cond, true≢false}
 use mathlib.Core.List.{List, [], _∷_, _++_, reverse, reverse-cons}
+use mathlib.Core.Logic.{_↔_}
 use native.Mathlib.Omega.{arith}
+use borrow.Author.Tests.{eqb-true, eq-eqb}
+use lib.Dec.{eqb}
 use lib.ListN.{take, drop, getD}
 use lib.Seq.{getD-drop}
 
@@ -34,3 +39,31 @@ pub reverse-bytes : (s : List ℕ) → AllBytes s → AllBytes (reverse s)
 reverse-bytes [] h = none-bytes
 reverse-bytes (b ∷ s) h =
     rw reverse-cons (append-bytes (reverse s) (reverse-bytes s (tail-bytes h)) (cons-bytes (h .below 0) none-bytes))
+
+-- ---- compared
+
+unfoldable pub sameBytes : List ℕ → List ℕ → Bool
+sameBytes [] [] = true
+sameBytes [] (y ∷ t) = false
+sameBytes (x ∷ s) [] = false
+sameBytes (x ∷ s) (y ∷ t) = cond (eqb x y) (sameBytes s t) false
+
+pub same-bytes-refl : (s : List ℕ) → sameBytes s s ≡ true
+unfolding sameBytes
+same-bytes-refl [] = refl
+same-bytes-refl (x ∷ s) = rw (eq-eqb x x refl) (same-bytes-refl s)
+
+pub same-bytes-equal : (s t : List ℕ) → sameBytes s t ≡ true → s ≡ t
+unfolding sameBytes
+same-bytes-equal [] [] e = refl
+same-bytes-equal [] (y ∷ t) e = absurd (true≢false (sym e))
+same-bytes-equal (x ∷ s) [] e = absurd (true≢false (sym e))
+same-bytes-equal (x ∷ s) (y ∷ t) e = go (eqb x y) refl e (same-bytes-equal s t)
+  where
+    go : (l : Bool) → eqb x y ≡ l → cond l (sameBytes s t) false ≡ true → (sameBytes s t ≡ true → s ≡ t) → x ∷ s ≡ y ∷ t
+    go true e f r = rw (eqb-true x y e, r f)
+    go false e f r = absurd (true≢false (sym f))
+
+-- the comparison is equality
+pub same-bytes-iff : (s t : List ℕ) → sameBytes s t ≡ true ↔ s ≡ t
+same-bytes-iff s t = (same-bytes-equal s t, λ e. rw (← e) (same-bytes-refl s))

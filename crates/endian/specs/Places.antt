@@ -8,7 +8,7 @@ use native.Mathlib.Omega.{arith}
 use borrow.Author.Tests.{le-leb, leb-true}
 use lib.Dec.{leb}
 use lib.ListN.{length, take, drop, length-append, length-drop}
-use lib.Seq.{length-take-le, take-at, drop-append-add, drop-drop}
+use lib.Seq.{length-take-le, take-at, take-append-seam, drop-at, drop-append-add, drop-drop}
 use Rattle.endian.specs.Numbers.{bigBytes, length-bigBytes}
 use Rattle.endian.specs.declared.Number.{Number}
 use Rattle.endian.specs.declared.Number.the-variants.{Read, Missing}
@@ -47,6 +47,10 @@ module _ (s : List ℕ) (at : ℕ) (t : List ℕ) (fits : at + length t ≤ leng
   front-length : length (take at s) ≡ at
   front-length = length-take-le at s (omega arith)
 
+  pub written-within : writtenBytes s at t ≡ overwritten s at t
+  unfolding writtenBytes
+  written-within = rw (le-leb (at + length t) (length s) fits)
+
   pub length-overwritten : length (overwritten s at t) ≡ length s
   unfolding overwritten
   length-overwritten = rw (length-append, length-append, front-length, length-drop) (omega arith)
@@ -54,6 +58,14 @@ module _ (s : List ℕ) (at : ℕ) (t : List ℕ) (fits : at + length t ≤ leng
   pub take-overwritten : take (at + length t) (overwritten s at t) ≡ take at s ++ t
   unfolding overwritten
   take-overwritten = take-at (take at s ++ t) (drop (at + length t) s) (at + length t) (rw (length-append, front-length))
+
+  -- what was written stands there
+  pub overwritten-there : take (length t) (drop at (overwritten s at t)) ≡ t
+  unfolding overwritten
+  overwritten-there =
+      ap (λ l. take (length t) (drop at l)) (append-assoc (take at s) t (drop (at + length t) s))
+      ∙ ap (take (length t)) (drop-at (take at s) (t ++ drop (at + length t) s) at front-length)
+      ∙ take-append-seam t (drop (at + length t) s)
 
   pub drop-overwritten : (n : ℕ) → at + length t ≤ n → drop n (overwritten s at t) ≡ drop n s
   unfolding overwritten

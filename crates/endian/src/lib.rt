@@ -4,6 +4,7 @@ ghost use mathlib.Core.Path.{_≡_};
 ghost use Prim.Native.Nat.{_+_, _≤_, _<_};
 ghost use lib.Dec.{leb};
 ghost use lib.ListN.{length, getD, take, drop};
+ghost use Rattle.endian.specs.Bytes.{sameBytes};
 ghost use Rattle.endian.specs.Numbers.{little, big};
 ghost use Rattle.endian.specs.Places.{holds, numberAt, placed, writtenAt, overwritten, writtenBytes, numberOf};
 
@@ -141,4 +142,21 @@ pub fn write_bytes(out: &mut [u8], at: usize, text: &[u8]) -> bool
     } else {
         false
     }
+}
+
+// Whether two slices have the same bytes.
+pub fn same_bytes(a: &[u8], b: &[u8]) -> bool
+    ensures { λ r. ⌜ r ≡ sameBytes (now (a .entry)) (now (b .entry)) ⌝ }
+{
+    if a.len() != b.len() {
+        return false;
+    }
+    let mut i: usize = 0;
+    while i < a.len() {
+        if a[i] != b[i] {
+            return false;
+        }
+        i += 1;
+    }
+    true
 }

@@ -1,6 +1,5 @@
 mod Heads
 mod Passing
 mod Integers
-mod Comparing
 mod Writing
 mod Finding

@@ -10,8 +10,8 @@ use lib.Dec.{ltb}
 use lib.ListN.{length, take, drop, length-append, length-drop}
 use lib.Seq.{length-take-le, take-at, drop-append-add, drop-drop}
 use Rattle.endian.specs.Numbers.{littleBytes, bigBytes, length-bigBytes}
-use Rattle.endian.specs.Places.{placed, writtenAt, Within, within-holds}
-use Rattle.msgpack.specs.Writers.{Form, form, formBytes, sizedForm, textForm, unsignedForm, containerForm, written, nextPlace}
+use Rattle.endian.specs.Places.{placed, writtenAt, overwritten, writtenBytes, Within, within-holds}
+use Rattle.msgpack.specs.Writers.{Form, form, formBytes, sizedForm, textForm, unsignedForm, containerForm, nextPlace}
 
 -- ---- the forms are small
 
@@ -56,8 +56,8 @@ module _ (f g : Form) (e : f ≡ g) where
   pub chosen-small : SmallForm g → (f .first < 256) × (f .width ≤ 8)
   chosen-small s = rw e (s .first-byte, s .narrow)
 
-  pub chosen-written : (s : List ℕ) (at n : ℕ) (r : Option ℕ) (t : List ℕ) → r ≡ nextPlace (length s) at (formBytes f n) → t ≡ written s at (formBytes f n)
-      → (r ≡ nextPlace (length s) at (formBytes g n)) × (t ≡ written s at (formBytes g n))
+  pub chosen-written : (s : List ℕ) (at n : ℕ) (r : Option ℕ) (t : List ℕ) → r ≡ nextPlace (length s) at (formBytes f n) → t ≡ writtenBytes s at (formBytes f n)
+      → (r ≡ nextPlace (length s) at (formBytes g n)) × (t ≡ writtenBytes s at (formBytes g n))
   chosen-written s at n r t p q = rw (← e) (p, q)
 
 -- ---- a form at a place
@@ -79,8 +79,8 @@ module _ (s : List ℕ) (at first width n : ℕ) where
     unfolding nextPlace
     no-place = rw (form-length, lt-leb (at + (1 + width)) (length s) short)
 
-    pub unwritten : s ≡ written s at (formBytes (form first width) n)
-    unfolding written
+    pub unwritten : s ≡ writtenBytes s at (formBytes (form first width) n)
+    unfolding writtenBytes overwritten
     unwritten = rw (form-length, lt-leb (at + (1 + width)) (length s) short)
 
   module _ (room : at + (1 + width) ≤ length s) where
@@ -89,8 +89,8 @@ module _ (s : List ℕ) (at first width n : ℕ) where
     next-place = rw (form-length, le-leb (at + (1 + width)) (length s) room)
 
     -- the two writes
-    pub both-written : first < 256 → width ≤ 8 → writtenAt (writtenAt s at 1 first) (at + 1) width n ≡ written s at (formBytes (form first width) n)
-    unfolding written
+    pub both-written : first < 256 → width ≤ 8 → writtenAt (writtenAt s at 1 first) (at + 1) width n ≡ writtenBytes s at (formBytes (form first width) n)
+    unfolding writtenBytes overwritten
     both-written f w =
         let p : List ℕ = take at s ++ (first ∷ []) in
         let q : List ℕ = drop (at + 1) s in

@@ -1,21 +1,16 @@
 -- The value of a text key in a map: keys are compared as bytes, in every width of text, and of a repeated key the last counts (document 01, "The value").
 use Prim.Native.Nat.{ℕ, zero, suc, _+_}
-use mathlib.Core.Bool.{Bool, true, false, cond}
-use mathlib.Core.List.{List, [], _∷_}
+use mathlib.Core.Bool.{Bool, false, cond}
+use mathlib.Core.List.{List}
 use mathlib.Core.Option.{Option, none, some}
 use lib.Dec.{eqb}
 use lib.ListN.{drop}
+use Rattle.endian.specs.Bytes.{sameBytes}
 use Rattle.msgpack.specs.Formats.{mapKind}
 use Rattle.msgpack.specs.Items.{Passage, whole, cut, tooDeep, headOf, passItem, depthAllowed}
 use Rattle.msgpack.specs.Readers.{Part, content, readText}
 use Rattle.msgpack.specs.declared.Found.{Found}
 use Rattle.msgpack.specs.declared.Found.the-variants as found-answer
-
-unfoldable pub sameBytes : List ℕ → List ℕ → Bool
-sameBytes [] [] = true
-sameBytes [] (y ∷ t) = false
-sameBytes (x ∷ s) [] = false
-sameBytes (x ∷ s) (y ∷ t) = cond (eqb x y) (sameBytes s t) false
 
 abbrev pub contentIs : List ℕ → List ℕ → Option Part → Bool
 contentIs key s (some p) = sameBytes (content s p) key

@@ -1,10 +1,10 @@
--- The shortest heads, and a list with a head written at a place.
+-- The shortest heads, and the place after one.
 use Prim.Native.Nat.{ℕ, _+_}
 use mathlib.Core.Bool.{cond}
-use mathlib.Core.List.{List, _∷_, _++_}
+use mathlib.Core.List.{List, _∷_}
 use mathlib.Core.Option.{Option, none, some}
 use lib.Dec.{ltb, leb}
-use lib.ListN.{length, take, drop}
+use lib.ListN.{length}
 use Rattle.endian.specs.Numbers.{bigBytes}
 use Rattle.msgpack.specs.declared.Form as declared
 use Rattle.msgpack.specs.declared.Written.{Written}
@@ -59,11 +59,7 @@ mapHead n = formBytes (containerForm 0x80 0xde n) n
 
 -- ---- written at a place
 
--- the list with the bytes e in place of those that stood there; as it was, where they do not all lie within
-unfoldable pub written : List ℕ → ℕ → List ℕ → List ℕ
-written s at e = cond (leb (at + length e) (length s)) (take at s ++ e ++ drop (at + length e) s) s
-
--- the place after them
+-- the place after the bytes e, where all of them lie within
 unfoldable pub nextPlace : ℕ → ℕ → List ℕ → Option ℕ
 nextPlace len at e = cond (leb (at + length e) len) (some (at + length e)) none
 

@@ -5,11 +5,12 @@ ghost use mathlib.Core.Option.{some};
 ghost use mathlib.Core.Path.{_≡_};
 ghost use Prim.Native.Nat.{_≤_, _<_, _^_};
 ghost use lib.ListN.{length, drop};
+ghost use Rattle.endian.specs.Places.{writtenBytes};
 ghost use Rattle.msgpack.specs.Formats.{formatOf};
 ghost use Rattle.msgpack.specs.Items.{headRead, HeadAt, itemsOf, passItems, passItem, passOver, passageOf};
 ghost use Rattle.msgpack.specs.Readers.{isWhole, contentAt, readText, readBinary, partOf, readBoolean, booleanOf, twosComplement, integerOf, readInteger, integerRead, countAt, readArray, readMap, countedOf};
-ghost use Rattle.msgpack.specs.Lookup.{sameBytes, keyAt, found, missing, placeOf, lastWhere, lastValue};
-ghost use Rattle.msgpack.specs.Writers.{formRead, formBytes, sizedForm, textForm, unsignedForm, containerForm, textHead, binaryHead, unsignedInteger, arrayHead, mapHead, written, nextPlace, nextOf};
+ghost use Rattle.msgpack.specs.Lookup.{keyAt, found, missing, placeOf, lastWhere, lastValue};
+ghost use Rattle.msgpack.specs.Writers.{formRead, formBytes, sizedForm, textForm, unsignedForm, containerForm, textHead, binaryHead, unsignedInteger, arrayHead, mapHead, nextPlace, nextOf};
 use endian::Number;
 
 // The kinds of items, as numbers that can be compared.
@@ -378,23 +379,6 @@ pub fn read_map(s: &[u8]) -> Items
     count_at(MAP, s)
 }
 
-// Whether two slices have the same bytes.
-fn same_bytes(a: &[u8], b: &[u8]) -> bool
-    ensures { λ r. ⌜ r ≡ sameBytes (now (a .entry)) (now (b .entry)) ⌝ }
-{
-    if a.len() != b.len() {
-        return false;
-    }
-    let mut i: usize = 0;
-    while i < a.len() {
-        if a[i] != b[i] {
-            return false;
-        }
-        i += 1;
-    }
-    true
-}
-
 // Whether the text key stands at the front of s, in any width.
 fn key_at(key: &[u8], s: &[u8]) -> bool
     ensures { λ r. ⌜ r ≡ keyAt (now (key .entry)) (now (s .entry)) ⌝ }
@@ -402,7 +386,7 @@ fn key_at(key: &[u8], s: &[u8]) -> bool
     match read_text(s) {
         Content::Part { start, len } => {
             let end = start + len;
-            same_bytes(&s[start..end], key)
+            endian::same_bytes(&s[start..end], key)
         }
         Content::Missing => false,
     }
@@ -549,7 +533,7 @@ pub enum Written {
 fn put(out: &mut [u8], at: usize, f: Form, n: u64) -> Written
     requires { ⌜ (f .first < 256) × (f .width ≤ 8) ⌝ }
     ensures { λ r. ⌜ nextOf r ≡ nextPlace (length (now (out .entry))) at (formBytes (formRead f) n) ⌝ }
-    ensures { λ _. ⌜ now (out .exit) ≡ written (now (out .entry)) at (formBytes (formRead f) n) ⌝ }
+    ensures { λ _. ⌜ now (out .exit) ≡ writtenBytes (now (out .entry)) at (formBytes (formRead f) n) ⌝ }
 {
     let first = f.first;
     let width = f.width;
@@ -568,7 +552,7 @@ fn put(out: &mut [u8], at: usize, f: Form, n: u64) -> Written
 // The head of a text of n bytes, at a place of out.
 pub fn write_text_head(out: &mut [u8], at: usize, n: u32) -> Written
     ensures { λ r. ⌜ nextOf r ≡ nextPlace (length (now (out .entry))) at (textHead n) ⌝ }
-    ensures { λ _. ⌜ now (out .exit) ≡ written (now (out .entry)) at (textHead n) ⌝ }
+    ensures { λ _. ⌜ now (out .exit) ≡ writtenBytes (now (out .entry)) at (textHead n) ⌝ }
 {
     put(out, at, text_form(n as u64), n as u64)
 }
@@ -576,7 +560,7 @@ pub fn write_text_head(out: &mut [u8], at: usize, n: u32) -> Written
 // The head of n bytes.
 pub fn write_binary_head(out: &mut [u8], at: usize, n: u32) -> Written
     ensures { λ r. ⌜ nextOf r ≡ nextPlace (length (now (out .entry))) at (binaryHead n) ⌝ }
-    ensures { λ _. ⌜ now (out .exit) ≡ written (now (out .entry)) at (binaryHead n) ⌝ }
+    ensures { λ _. ⌜ now (out .exit) ≡ writtenBytes (now (out .entry)) at (binaryHead n) ⌝ }
 {
     put(out, at, sized_form(0xc4, n as u64), n as u64)
 }
@@ -584,7 +568,7 @@ pub fn write_binary_head(out: &mut [u8], at: usize, n: u32) -> Written
 // The integer n, in the shortest of the unsigned forms.
 pub fn write_unsigned(out: &mut [u8], at: usize, n: u64) -> Written
     ensures { λ r. ⌜ nextOf r ≡ nextPlace (length (now (out .entry))) at (unsignedInteger n) ⌝ }
-    ensures { λ _. ⌜ now (out .exit) ≡ written (now (out .entry)) at (unsignedInteger n) ⌝ }
+    ensures { λ _. ⌜ now (out .exit) ≡ writtenBytes (now (out .entry)) at (unsignedInteger n) ⌝ }
 {
     put(out, at, unsigned_form(n), n)
 }
@@ -592,7 +576,7 @@ pub fn write_unsigned(out: &mut [u8], at: usize, n: u64) -> Written
 // The head of an array of n items.
 pub fn write_array_head(out: &mut [u8], at: usize, n: u32) -> Written
     ensures { λ r. ⌜ nextOf r ≡ nextPlace (length (now (out .entry))) at (arrayHead n) ⌝ }
-    ensures { λ _. ⌜ now (out .exit) ≡ written (now (out .entry)) at (arrayHead n) ⌝ }
+    ensures { λ _. ⌜ now (out .exit) ≡ writtenBytes (now (out .entry)) at (arrayHead n) ⌝ }
 {
     put(out, at, container_form(0x90, 0xdc, n as u64), n as u64)
 }
@@ -600,7 +584,7 @@ pub fn write_array_head(out: &mut [u8], at: usize, n: u32) -> Written
 // The head of a map of n pairs.
 pub fn write_map_head(out: &mut [u8], at: usize, n: u32) -> Written
     ensures { λ r. ⌜ nextOf r ≡ nextPlace (length (now (out .entry))) at (mapHead n) ⌝ }
-    ensures { λ _. ⌜ now (out .exit) ≡ written (now (out .entry)) at (mapHead n) ⌝ }
+    ensures { λ _. ⌜ now (out .exit) ≡ writtenBytes (now (out .entry)) at (mapHead n) ⌝ }
 {
     put(out, at, container_form(0x80, 0xde, n as u64), n as u64)
 }

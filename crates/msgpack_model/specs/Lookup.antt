@@ -1,20 +1,18 @@
 -- The last value of a key is the lookup in the map's value; and where the key does not repeat, the order of pairs plays no part.
 use Prim.Native.Nat.{ℕ, suc, _+_, _≤_}
 use mathlib.Core.Bool.{Bool, true, false, cond}
-use mathlib.Core.List.{List, [], _∷_, _++_, append-assoc}
-use mathlib.Core.Logic.{_↔_}
+use mathlib.Core.List.{List, _++_, append-assoc}
 use mathlib.Core.Option.{Option, some, none as nothing}
 use mathlib.Core.Path.{_≡_, refl, sym, ap, _∙_}
 use native.Mathlib.Omega.{arith}
-use borrow.Author.Tests.{eqb-true, eq-eqb, ne-eqb}
-use lib.Dec.{eqb}
+use borrow.Author.Tests.{ne-eqb}
 use lib.ListN.{length, drop}
 use lib.Seq.{drop-drop, drop-append-seam, drop-append-add}
+use Rattle.endian.specs.Bytes.{sameBytes}
 use Rattle.msgpack.specs.Formats.{mapKind}
 use Rattle.msgpack.specs.Items.{headOf, passItem, depthAllowed}
 use Rattle.msgpack.specs.Readers.{Part, readText}
-use Rattle.msgpack.specs.Lookup.{sameBytes, contentIs, keyAt, Place, found, missing, broken, lastWhere, lastValue}
-use Rattle.msgpack.specs.HeadLaws.{absurd-numbers}
+use Rattle.msgpack.specs.Lookup.{contentIs, keyAt, Place, found, missing, broken, lastWhere, lastValue}
 use Rattle.msgpack_model.specs.Values.{Value, Map, Pairs, no-pairs, pair, countPairs, depth, pairsDepth, asText, asMap}
 use Rattle.msgpack_model.specs.Encoding.{MapHead, Encodes, scalar, array, map, EncodesPairs, no-pair, next-pair}
 use Rattle.msgpack_model.specs.Heads.{scalar-flat, array-begins, map-begins}
@@ -39,26 +37,6 @@ lookupFrom key (pair k v ps) best = lookupFrom key ps (cond (keyIs key k) (some 
 
 abbrev pub lookup : List ℕ → Pairs → Option Value
 lookup key ps = lookupFrom key ps nothing
-
--- the comparison of bytes is equality
-same-bytes-equal : (s t : List ℕ) → sameBytes s t ≡ true → s ≡ t
-unfolding sameBytes
-same-bytes-equal [] [] h = refl
-same-bytes-equal [] (y ∷ t) h = absurd-numbers (cc)
-same-bytes-equal (x ∷ s) [] h = absurd-numbers (cc)
-same-bytes-equal (x ∷ s) (y ∷ t) h = by (eqb x y) refl (same-bytes-equal s t) h
-  where
-    by : (l : Bool) → eqb x y ≡ l → (sameBytes s t ≡ true → s ≡ t) → cond l (sameBytes s t) false ≡ true → x ∷ s ≡ y ∷ t
-    by true e more q = let p : s ≡ t = more q in let r : x ≡ y = eqb-true x y e in cc
-    by false e more q = absurd-numbers (cc)
-
-same-bytes-refl : (s : List ℕ) → sameBytes s s ≡ true
-unfolding sameBytes
-same-bytes-refl [] = refl
-same-bytes-refl (x ∷ s) = rw (eq-eqb x x refl) (same-bytes-refl s)
-
-pub same-bytes-iff : (s t : List ℕ) → sameBytes s t ≡ true ↔ s ≡ t
-same-bytes-iff s t = (same-bytes-equal s t, λ e. rw (← e) (same-bytes-refl s))
 
 -- ---- the key at the front
 

@@ -1,14 +1,14 @@
--- `msgpack::same_bytes` meets its contract: the whole is what the rest from here is.
+-- `endian::same_bytes` meets its contract: the whole is what the rest from here is.
 use borrow.Author.Needs.{needs}
 use borrow.Author.Tests.{eq-eqb, ne-eqb}
 use Prim.Native.Nat.{_-_, _≤_}
 use mathlib.Core.Path.{_≡_, sym, _∙_}
 use native.Mathlib.Omega.{arith}
 use lib.ListN.{length, drop}
-use Rattle.msgpack.specs.Lookup.{sameBytes}
-use Rattle.msgpack.proofs.Comparing.{other-length, next-byte, at-end}
-use Rattle.msgpack.proofs.same_bytes.Statement.{statement}
-use Rattle.msgpack.proofs.same_bytes.Tie as tie
+use Rattle.endian.specs.Bytes.{sameBytes}
+use Rattle.endian.proofs.Comparing.{other-length, next-byte, at-end}
+use Rattle.endian.proofs.same_bytes.Statement.{statement}
+use Rattle.endian.proofs.same_bytes.Tie as tie
 
 abbrev Inv-loop : tie.InvT-loop
 Inv-loop a b i₀ i = (i ≤ length a) × (sameBytes a b ≡ sameBytes (drop i a) (drop i b))
