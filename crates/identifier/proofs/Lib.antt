@@ -1,0 +1,4 @@
+pub mod Loops
+pub mod Rules
+pub mod Structs
+pub mod Buffers

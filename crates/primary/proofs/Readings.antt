@@ -1,0 +1,101 @@
+-- The definitions of the readings, from the answers that their steps gave, and the places of their answers.
+use Prim.Native.Nat.{ℕ, _≤_}
+use mathlib.Core.Bool.{Bool, true, false, cond}
+use mathlib.Core.List.{List}
+use mathlib.Core.Option.{Option, none, some}
+use mathlib.Core.Path.{_≡_, sym, subst}
+use native.Mathlib.Omega.{arith}
+use lib.ListN.{length}
+use Rattle.msgpack.specs.HeadLaws.{absurd-numbers}
+use Rattle.msgpack.specs.Lookup.{Place, found, lastValue}
+use Rattle.msgpack.specs.LookupLaws.{value-inside}
+use Rattle.msgpack.specs.Readers.{readBoolean}
+use Rattle.identifier.specs.Ulid.{isUlid}
+use Rattle.identifier.specs.Identity.{Identity, isValid, identityOf}
+use Rattle.primary.specs.Parts.{Answer, refused, read, fills, ifFills, valueAt, textAt, textUnder, textsBy, textsUnder, ulidKey, bucketKey, objectKey, identifierKey, deletedKey, deleteIdKey, deletedUnder, valid, ulidOf, shapeOf, shapeAt, shapeUnder, blockBy, block, versionBy, version, versionDeleteBy, versionDelete}
+use Rattle.primary.specs.Answers.{Inside, AllInside, BlockInside, VersionInside, DeleteInside}
+use Rattle.primary.specs.declared.Text.{Text}
+use Rattle.primary.specs.declared.Texts.{Texts}
+use Rattle.primary.specs.declared.Fault.{Fault}
+use Rattle.primary.specs.declared.BlockRead.the-variants as block-answer
+use Rattle.primary.specs.declared.VersionRead.the-variants as version-answer
+use Rattle.primary.specs.declared.DeleteRead.the-variants as delete-answer
+
+-- ---- places
+
+module _ (s : List ℕ) where
+  pub block-inside : (t : Texts) → AllInside s t → BlockInside s (block-answer.Read t)
+  block-inside t h = record { identifier = λ u e. let same : t ≡ u = cc in subst (λ v. AllInside s v) same h }
+
+  pub no-block : (f : Fault) → BlockInside s (block-answer.Fault f)
+  no-block f = record { identifier = λ u e. absurd-numbers (cc) }
+
+  pub version-inside : (t : Texts) (d : Bool) → AllInside s t → VersionInside s (version-answer.Read t d)
+  version-inside t d h = record { identifier = λ u f e. let same : t ≡ u = cc in subst (λ v. AllInside s v) same h }
+
+  pub no-version : (f : Fault) → VersionInside s (version-answer.Fault f)
+  no-version f = record { identifier = λ u g e. absurd-numbers (cc) }
+
+  pub delete-inside : (t : Texts) (d : Text) → AllInside s t → Inside s d → DeleteInside s (delete-answer.Read t d)
+  delete-inside t d h g = record {
+    identifier = λ u f e. let same : t ≡ u = cc in subst (λ v. AllInside s v) same h;
+    deleteId = λ u f e. let same : d ≡ f = cc in subst (λ v. Inside s v) same g;
+  }
+
+  pub no-delete : (f : Fault) → DeleteInside s (delete-answer.Fault f)
+  no-delete f = record { identifier = λ u g e. absurd-numbers (cc); deleteId = λ u g e. absurd-numbers (cc) }
+
+-- ---- the rules
+
+pub valid-is : (i : Identity) (t : Bool) → t ≡ isValid i → cond t (some i) none ≡ valid i
+unfolding identityOf
+valid-is i t e = rw e
+
+-- ---- the types
+
+-- the place of a value, so that what follows can be lent
+pub value-place : (key s : List ℕ) (n : ℕ) → found n ≡ lastValue key s → n ≤ length s
+value-place key s n e = omega (arith, value-inside key s n (sym e))
+
+module _ (s : List ℕ) where
+  pub texts-are : (u b o : Option (List ℕ)) → u ≡ textUnder ulidKey s → b ≡ textUnder bucketKey s → o ≡ textUnder objectKey s → textsBy u b o ≡ textsUnder s
+  unfolding textsUnder
+  texts-are u b o e f g = rw (e, f, g)
+
+  pub shape-is : (t : Option (List ℕ)) (i : Option Identity) → t ≡ textAt s → i ≡ textsUnder s → blockBy (shapeOf t i) ≡ blockBy (shapeAt s)
+  unfolding shapeAt
+  shape-is t i e f = rw (e, f)
+
+  pub deleted-is : (p : Place) → p ≡ lastValue deletedKey s → valueAt readBoolean (some false) s p ≡ deletedUnder s
+  unfolding deletedUnder
+  deleted-is p e = rw e
+
+-- ---- the parts
+
+pub cut : {A : Type 0} (s : List ℕ) (next : Answer A) → fills s ≡ false → refused 16 ≡ ifFills s next
+cut s next w = rw w
+
+module _ (s : List ℕ) (w : fills s ≡ true) where
+  pub block-is : (p : Place) → p ≡ lastValue identifierKey s → blockBy (valueAt shapeAt none s p) ≡ block s
+  unfolding block shapeUnder
+  block-is p e = rw (w, e)
+
+  pub version-tested : (i : Identity) (d t : Bool) → some i ≡ textsUnder s → some d ≡ deletedUnder s → t ≡ isValid i → cond t (read (record { identifier = i; deleted = d })) (refused 18) ≡ version s
+  unfolding version identityOf
+  version-tested i d true e f v = rw (w, ← e, ← f, ← v)
+  version-tested i d false e f v = rw (w, ← e, ← f, ← v)
+
+  pub delete-tested : (i : Identity) (u : List ℕ) (t v : Bool) → some i ≡ textsUnder s → some u ≡ textUnder deleteIdKey s → t ≡ isValid i → v ≡ isUlid u
+      → cond t (cond v (read (record { identifier = i; deleteId = u })) (refused 18)) (refused 18) ≡ versionDelete s
+  unfolding versionDelete identityOf ulidOf
+  delete-tested i u true true e f v l = rw (w, ← e, ← f, ← v, ← l)
+  delete-tested i u true false e f v l = rw (w, ← e, ← f, ← v, ← l)
+  delete-tested i u false v e f v′ l = rw (w, ← e, ← f, ← v′)
+
+  pub version-is : (texts : Option Identity) (flag : Option Bool) → texts ≡ textsUnder s → flag ≡ deletedUnder s → versionBy texts flag ≡ version s
+  unfolding version
+  version-is texts flag e f = rw (w, e, f)
+
+  pub delete-is : (texts : Option Identity) (t : Option (List ℕ)) → texts ≡ textsUnder s → t ≡ textUnder deleteIdKey s → versionDeleteBy texts t ≡ versionDelete s
+  unfolding versionDelete
+  delete-is texts t e f = rw (w, e, f)

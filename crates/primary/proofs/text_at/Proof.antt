@@ -1,0 +1,65 @@
+-- `primary::text_at` meets its contract: what stands at the front of the rest of the part stands at that place of the part.
+use borrow.Author.Needs.{needs}
+use Prim.Native.Nat.{_+_}
+use mathlib.Core.Option.{some}
+use mathlib.Core.Path.{_≡_, sym, ap, _∙_}
+use native.Mathlib.Omega.{arith}
+use lib.ListN.{take, drop}
+use Rattle.msgpack.specs.Readers.{partOf}
+use Rattle.primary.specs.Parts.{textAt}
+use Rattle.primary.specs.Answers.{Inside}
+use Rattle.primary.proofs.Places.{text-inside, no-text, text-found, text-ends, text-missing}
+use Rattle.primary.proofs.text_at.Statement.{statement}
+use Rattle.primary.proofs.text_at.Tie as tie
+
+sub-read-text : tie.Need-sub-read-text
+sub-read-text c = search needs
+
+part-read-text-start : tie.Need-part-read-text-start
+part-read-text-start c = search needs
+
+part-read-text-end : tie.Need-part-read-text-end
+part-read-text-end c = search needs
+
+read-text-requires : tie.Need-read-text-requires
+read-text-requires c κs = search needs
+
+enum-known-start : tie.Need-enum-known-start
+enum-known-start c = search needs
+
+text-told : (c : tie.After-known-told)
+    → (some (take (c .before .start .given .0 .1 .0) (drop (c .before .before .before .before .before .before .args .at + c .before .start .given .0 .0) (c .before .before .before .before .before .before .args .part .now))) ≡ textAt (drop (c .before .before .before .before .before .before .args .at) (c .before .before .before .before .before .before .args .part .now)))
+    × Inside (c .before .before .before .before .before .before .args .part .now) (record { start = c .before .before .before .before .before .before .args .at + c .before .start .given .0 .0; len = c .before .start .given .0 .1 .0 })
+text-told c =
+    let d = c .before .before .before in
+    let e = sym (ap partOf (c .before .start .given .1)) ∙ d .read-text .ensures in
+    let w = d .before .before .before .pre in
+    (text-found _ _ w _ _ e, text-ends _ _ w _ _ e)
+
+add-t11 : tie.Need-add-t11
+add-t11 c = omega (arith, text-told c .1 .end)
+
+enum-told : tie.Need-enum-told
+enum-told c = search needs
+
+returns : tie.Need-returns
+returns c = (text-told c .0, text-inside _ _ (text-told c .1))
+
+returns-2 : tie.Need-returns-2
+returns-2 c =
+    let d = c .before .before in
+    (text-missing _ _ (d .before .before .before .pre) (sym (ap partOf (c .enum-told .given .1)) ∙ d .read-text .ensures), no-text _)
+
+pub text-at-spec : {M : Type 1} → statement M
+text-at-spec =
+    tie.close
+    (tie.spec
+    sub-read-text
+    part-read-text-start
+    part-read-text-end
+    read-text-requires
+    enum-known-start
+    add-t11
+    enum-told
+    returns
+    returns-2)

@@ -1,0 +1,174 @@
+-- When a part reads, and as what: exactly when it is whole, what it must have stands in it, and the texts keep the rules. So either shape of an identifier reads as the same identifier.
+use Prim.Native.Nat.{ℕ}
+use mathlib.Core.Bool.{Bool, true, false, cond}
+use mathlib.Core.List.{List}
+use mathlib.Core.Option.{Option, none, some}
+use mathlib.Core.Path.{_≡_, refl, sym, ap, subst, _∙_}
+use native.Mathlib.Omega.{arith}
+use lib.ListN.{length, drop, length-drop}
+use lib.Seq.{length-take-le}
+use Rattle.msgpack.specs.HeadLaws.{absurd-numbers}
+use Rattle.identifier.specs.Texts.{member}
+use Rattle.identifier.specs.Ulid.{isUlid}
+use Rattle.identifier.specs.Identity.{slash, Identity, isValid, identityOf}
+use Rattle.identifier.specs.Composite.{compositeText, shapes-agree, text-reads, reads-text}
+use Rattle.primary.specs.Parts.{Answer, refused, read, orRefused, fills, textUnder, textsUnder, deletedUnder, deleteIdKey, valid, ulidOf, Shape, composite, separate, shapeUnder, identityBy, block, Version, version, VersionDelete, versionDelete}
+use Rattle.primary.specs.Answers.{Inside, textIn}
+use Rattle.primary.specs.declared.Text.{Text}
+
+-- ---- steps that were not refused
+
+module _ {A B : Type 0} where
+  record Step (o : Option A) (next : A → Answer B) (b : B) : Type 0 where
+    given : A
+    is : o ≡ some given
+    then-read : next given ≡ read b
+
+  step : (number : ℕ) (o : Option A) (next : A → Answer B) (b : B) → orRefused number o next ≡ read b → Step o next b
+  step number (some a) next b e = record { given = a; is = refl; then-read = e }
+  step number none next b e = absurd-numbers (cc)
+
+record Filled {A : Type 0} (s : List ℕ) (answer : Answer A) (a : A) : Type 0 where
+  whole : fills s ≡ true
+  then-read : answer ≡ read a
+
+filled : {A : Type 0} (s : List ℕ) (answer : Answer A) (a : A) (t : Bool) → fills s ≡ t → cond t answer (refused 16) ≡ read a → Filled s answer a
+filled s answer a true w e = record { whole = w; then-read = e }
+filled s answer a false w e = absurd-numbers (cc)
+
+record Valid (i j : Identity) : Type 0 where
+  same : i ≡ j
+  rules : isValid j ≡ true
+
+valid-some : (i j : Identity) → valid i ≡ some j → Valid i j
+unfolding identityOf
+valid-some i j e = go (isValid i) refl e
+  where
+    go : (t : Bool) → isValid i ≡ t → cond t (some i) none ≡ some j → Valid i j
+    go true v f = let same : i ≡ j = cc in record { same = same; rules = ap isValid (sym same) ∙ v }
+    go false v f = absurd-numbers (cc)
+
+some-valid : (i : Identity) → isValid i ≡ true → valid i ≡ some i
+unfolding identityOf
+some-valid i v = rw v
+
+record Ulid (t u : List ℕ) : Type 0 where
+  same : t ≡ u
+  rules : isUlid u ≡ true
+
+ulid-some : (t u : List ℕ) → ulidOf t ≡ some u → Ulid t u
+unfolding ulidOf
+ulid-some t u e = go (isUlid t) refl e
+  where
+    go : (b : Bool) → isUlid t ≡ b → cond b (some t) none ≡ some u → Ulid t u
+    go true v f = let same : t ≡ u = cc in record { same = same; rules = ap isUlid (sym same) ∙ v }
+    go false v f = absurd-numbers (cc)
+
+-- ---- a block
+
+-- the identifier in one of its two shapes
+pub data Shows (i : Identity) : Shape → Type 0 where
+  as-text : Shows i (composite (compositeText i))
+  as-map : Shows i (separate i)
+
+pub record BlockNames (s : List ℕ) (i : Identity) : Type 0 where
+  pub whole : fills s ≡ true
+  pub shape : Shape
+  pub there : shapeUnder s ≡ some shape
+  pub shows : Shows i shape
+  pub rules : isValid i ≡ true
+
+shape-reads : (i : Identity) (shape : Shape) → isValid i ≡ true → Shows i shape → identityBy shape ≡ some i
+shape-reads i shape v as-text = text-reads i v
+shape-reads i shape v as-map = some-valid i v
+
+pub names-block : (s : List ℕ) (i : Identity) → BlockNames s i → block s ≡ read i
+unfolding block
+names-block s i b = rw (b .whole, b .there, shape-reads i (b .shape) (b .rules) (b .shows))
+
+reads-shape : (s : List ℕ) (i : Identity) (shape : Shape) → fills s ≡ true → shapeUnder s ≡ some shape → identityBy shape ≡ some i → BlockNames s i
+reads-shape s i (composite t) w e f =
+    let r = reads-text t i f in
+    record { whole = w; shape = composite t; there = e; shows = subst (λ u. Shows i (composite u)) (r .1) as-text; rules = r .0 }
+reads-shape s i (separate j) w e f =
+    let r = valid-some j i f in
+    record { whole = w; shape = separate j; there = e; shows = subst (λ k. Shows i (separate k)) (sym (r .same)) as-map; rules = r .rules }
+
+pub block-names : (s : List ℕ) (i : Identity) → block s ≡ read i → BlockNames s i
+unfolding block
+block-names s i e =
+    let a = filled s _ i (fills s) refl e in
+    let b = step 17 (shapeUnder s) _ i (a .then-read) in
+    let c = step 18 (identityBy (b .given)) _ i (b .then-read) in
+    let same : c .given ≡ i = cc in
+    reads-shape s i (b .given) (a .whole) (b .is) (c .is ∙ ap some same)
+
+-- Either shape of an identifier reads as the same identifier.
+pub either-shape : (s t : List ℕ) (i : Identity) → BlockNames s i → BlockNames t i → block s ≡ block t
+either-shape s t i b d = names-block s i b ∙ sym (names-block t i d)
+
+-- Where the texts break the rules both shapes are refused alike. (Of a ULID of another length, or a bucket with a slash, a joined text does not show where it was joined.)
+pub shapes-alike : (s t : List ℕ) (i : Identity) → length (i .ulid) ≡ 26 → member slash (i .bucket) ≡ false → fills s ≡ true → fills t ≡ true
+    → shapeUnder s ≡ some (composite (compositeText i)) → shapeUnder t ≡ some (separate i) → block s ≡ block t
+unfolding block
+shapes-alike s t i l m w v e f = rw (w, v, e, f, shapes-agree (i .ulid) (i .bucket) (i .object) l m)
+
+-- ---- a version
+
+pub record VersionNames (s : List ℕ) (v : Version) : Type 0 where
+  pub whole : fills s ≡ true
+  pub texts : textsUnder s ≡ some (v .identifier)
+  pub flag : deletedUnder s ≡ some (v .deleted)
+  pub rules : isValid (v .identifier) ≡ true
+
+pub names-version : (s : List ℕ) (v : Version) → VersionNames s v → version s ≡ read v
+unfolding version
+names-version s v n = rw (n .whole, n .texts, n .flag, some-valid (v .identifier) (n .rules))
+
+pub version-names : (s : List ℕ) (v : Version) → version s ≡ read v → VersionNames s v
+unfolding version
+version-names s v e =
+    let a = filled s _ v (fills s) refl e in
+    let b = step 17 (textsUnder s) _ v (a .then-read) in
+    let c = step 17 (deletedUnder s) _ v (b .then-read) in
+    let d = step 18 (valid (b .given)) _ v (c .then-read) in
+    let r = valid-some (b .given) (d .given) (d .is) in
+    let same : record { identifier = d .given; deleted = c .given } ≡ v = cc in
+    subst (λ x. VersionNames s x) same (record { whole = a .whole; texts = b .is ∙ ap some (r .same); flag = c .is; rules = r .rules })
+
+-- ---- a version delete
+
+pub record DeleteNames (s : List ℕ) (v : VersionDelete) : Type 0 where
+  pub whole : fills s ≡ true
+  pub texts : textsUnder s ≡ some (v .identifier)
+  pub deleteText : textUnder deleteIdKey s ≡ some (v .deleteId)
+  pub rules : isValid (v .identifier) ≡ true
+  pub deleteRules : isUlid (v .deleteId) ≡ true
+
+pub names-delete : (s : List ℕ) (v : VersionDelete) → DeleteNames s v → versionDelete s ≡ read v
+unfolding versionDelete ulidOf
+names-delete s v n = rw (n .whole, n .texts, n .deleteText, some-valid (v .identifier) (n .rules), n .deleteRules)
+
+pub delete-names : (s : List ℕ) (v : VersionDelete) → versionDelete s ≡ read v → DeleteNames s v
+unfolding versionDelete
+delete-names s v e =
+    let a = filled s _ v (fills s) refl e in
+    let b = step 17 (textsUnder s) _ v (a .then-read) in
+    let c = step 17 (textUnder deleteIdKey s) _ v (b .then-read) in
+    let d = step 18 (valid (b .given)) _ v (c .then-read) in
+    let f = step 18 (ulidOf (c .given)) _ v (d .then-read) in
+    let r = valid-some (b .given) (d .given) (d .is) in
+    let u = ulid-some (c .given) (f .given) (f .is) in
+    let same : record { identifier = d .given; deleteId = f .given } ≡ v = cc in
+    subst (λ x. DeleteNames s x) same (record {
+      whole = a .whole;
+      texts = b .is ∙ ap some (r .same);
+      deleteText = c .is ∙ ap some (u .same);
+      rules = r .rules;
+      deleteRules = u .rules;
+    })
+
+-- ---- a text told is as long as its place says
+
+pub text-length : (s : List ℕ) (t : Text) → Inside s t → length (textIn s t) ≡ t .len
+text-length s t h = length-take-le (t .len) (drop (t .start) s) (omega (arith, h .end, length-drop (t .start) s))

@@ -1,0 +1,305 @@
+// The primary parts of blocks, versions and version deletes. Answers tell where the texts stand in the
+// part; nothing is copied.
+ghost use mathlib.Core.Path.{_≡_};
+ghost use Prim.Native.Nat.{_+_, _≤_};
+ghost use lib.ListN.{length, take, drop};
+ghost use Rattle.msgpack.specs.Readers.{booleanOf};
+ghost use Rattle.identifier.specs.Identity.{isValid};
+ghost use Rattle.identifier.specs.Ulid.{isUlid};
+ghost use Rattle.identifier.specs.Composite.{identityIn};
+ghost use Rattle.primary.specs.Parts.{read, orRefused, fills, textAt, textUnder, textsUnder, deletedUnder, shapeAt, valid, blockBy, block, version, versionDelete};
+ghost use Rattle.primary.specs.Answers.{numberOf, textIn, textsIn, textOf, textsOf, blockOf, versionOf, versionDeleteOf, Inside, AllInside, TextInside, TextsInside, BlockInside, VersionInside, DeleteInside};
+use identifier::Split;
+use msgpack::Boolean;
+use msgpack::Content;
+use msgpack::Found;
+use msgpack::Passed;
+
+// Keys of an identifier's map.
+const BUCKET: [u8; 1] = *b"b";
+
+const OBJECT: [u8; 1] = *b"o";
+
+const ULID: [u8; 1] = *b"v";
+
+// Of a block.
+const IDENTIFIER: [u8; 1] = *b"I";
+
+// Of a version: whether it is a delete marker.
+const DELETED: [u8; 1] = *b"d";
+
+// Of a version delete: its own identifier. Provisional in document 001, which prints it so.
+const DELETE_ID: [u8; 3] = *b"???";
+
+// Refusals 16 to 18 of document 01.
+pub enum Fault {
+    NotWhole,
+    NotAsDescribed,
+    RuleBroken,
+}
+
+// The number of a refusal, as document 01 has it.
+pub fn number(f: Fault) -> u8
+    ensures { λ r. ⌜ r ≡ numberOf f ⌝ }
+{
+    match f {
+        Fault::NotWhole => 16,
+        Fault::NotAsDescribed => 17,
+        Fault::RuleBroken => 18,
+    }
+}
+
+// Where a text stands in the part.
+pub struct Text {
+    pub start: usize,
+    pub len: usize,
+}
+
+// Where the texts of an identifier stand.
+pub struct Texts {
+    pub ulid: Text,
+    pub bucket: Text,
+    pub object: Text,
+}
+
+pub enum BlockRead {
+    Read(Texts),
+    Fault(Fault),
+}
+
+// With whether the version is a delete marker.
+pub enum VersionRead {
+    Read(Texts, bool),
+    Fault(Fault),
+}
+
+// The version that goes, and the delete identifier.
+pub enum DeleteRead {
+    Read(Texts, Text),
+    Fault(Fault),
+}
+
+enum TextRead {
+    At(Text),
+    Missing,
+}
+
+enum TextsRead {
+    At(Texts),
+    Missing,
+}
+
+// Whether one whole item fills the part.
+fn fills(part: &[u8]) -> bool
+    ensures { λ r. ⌜ r ≡ fills (now (part .entry)) ⌝ }
+{
+    match msgpack::pass_over(part) {
+        Passed::Whole(n) => n == part.len(),
+        Passed::Cut => false,
+        Passed::TooDeep => false,
+    }
+}
+
+// The text at a place.
+fn text_at(part: &[u8], at: usize) -> TextRead
+    requires { ⌜ at ≤ length (now part) ⌝ }
+    ensures { λ r. ⌜ textOf (now (part .entry)) r ≡ textAt (drop at (now (part .entry))) ⌝ }
+    ensures inside { λ r. ⌜ TextInside (now (part .entry)) r ⌝ }
+{
+    match msgpack::read_text(&part[at..]) {
+        Content::Part { start, len } => TextRead::At(Text {
+            start: at + start,
+            len,
+        }),
+        Content::Missing => TextRead::Missing,
+    }
+}
+
+// The text under a key of the map at a place.
+fn text_under(part: &[u8], at: usize, key: &[u8]) -> TextRead
+    requires { ⌜ at ≤ length (now part) ⌝ }
+    ensures { λ r. ⌜ textOf (now (part .entry)) r ≡ textUnder (now (key .entry)) (drop at (now (part .entry))) ⌝ }
+    ensures inside { λ r. ⌜ TextInside (now (part .entry)) r ⌝ }
+{
+    match msgpack::map_value(&part[at..], key) {
+        Found::At(n) => text_at(part, at + n),
+        Found::Missing => TextRead::Missing,
+        Found::Broken => TextRead::Missing,
+    }
+}
+
+// The three texts of the identifier map at a place.
+fn texts_under(part: &[u8], at: usize) -> TextsRead
+    requires { ⌜ at ≤ length (now part) ⌝ }
+    ensures { λ r. ⌜ textsOf (now (part .entry)) r ≡ textsUnder (drop at (now (part .entry))) ⌝ }
+    ensures inside { λ r. ⌜ TextsInside (now (part .entry)) r ⌝ }
+{
+    let TextRead::At(ulid) = text_under(part, at, &ULID) else {
+        return TextsRead::Missing;
+    };
+    let TextRead::At(bucket) = text_under(part, at, &BUCKET) else {
+        return TextsRead::Missing;
+    };
+    let TextRead::At(object) = text_under(part, at, &OBJECT) else {
+        return TextsRead::Missing;
+    };
+    TextsRead::At(Texts {
+        ulid,
+        bucket,
+        object,
+    })
+}
+
+// Whether the three texts keep the rules.
+fn is_valid(part: &[u8], t: Texts) -> bool
+    requires { ⌜ AllInside (now part) t ⌝ }
+    ensures { λ r. ⌜ r ≡ isValid (textsIn (now (part .entry)) t) ⌝ }
+{
+    let ulid = t.ulid.start;
+    let bucket = t.bucket.start;
+    let object = t.object.start;
+    let ulid_end = ulid + t.ulid.len;
+    let bucket_end = bucket + t.bucket.len;
+    let object_end = object + t.object.len;
+    identifier::is_identifier(
+        &part[ulid..ulid_end],
+        &part[bucket..bucket_end],
+        &part[object..object_end],
+    )
+}
+
+// Whether a text is a ULID.
+fn is_ulid(part: &[u8], t: Text) -> bool
+    requires { ⌜ Inside (now part) t ⌝ }
+    ensures { λ r. ⌜ r ≡ isUlid (textIn (now (part .entry)) t) ⌝ }
+{
+    let start = t.start;
+    let end = start + t.len;
+    identifier::is_ulid(&part[start..end])
+}
+
+// The identifier in a composite text.
+fn from_composite(part: &[u8], text: Text) -> BlockRead
+    requires { ⌜ Inside (now part) text ⌝ }
+    ensures { λ r. ⌜ blockOf (now (part .entry)) r ≡ orRefused 18 (identityIn (textIn (now (part .entry)) text)) read ⌝ }
+    ensures inside { λ r. ⌜ BlockInside (now (part .entry)) r ⌝ }
+{
+    let start = text.start;
+    let end = start + text.len;
+    match identifier::split_composite(&part[start..end]) {
+        Split::Slash(slash) => {
+            let from = slash + 1;
+            BlockRead::Read(Texts {
+                ulid: Text { start, len: 26 },
+                bucket: Text {
+                    start: start + 27,
+                    len: slash - 27,
+                },
+                object: Text {
+                    start: start + from,
+                    len: text.len - from,
+                },
+            })
+        }
+        Split::Malformed => BlockRead::Fault(Fault::RuleBroken),
+    }
+}
+
+// The identifier of three texts.
+fn from_texts(part: &[u8], t: Texts) -> BlockRead
+    requires { ⌜ AllInside (now part) t ⌝ }
+    ensures { λ r. ⌜ blockOf (now (part .entry)) r ≡ orRefused 18 (valid (textsIn (now (part .entry)) t)) read ⌝ }
+    ensures inside { λ r. ⌜ BlockInside (now (part .entry)) r ⌝ }
+{
+    if is_valid(part, t) {
+        BlockRead::Read(t)
+    } else {
+        BlockRead::Fault(Fault::RuleBroken)
+    }
+}
+
+// The identifier at a place, in either shape.
+fn identifier_at(part: &[u8], at: usize) -> BlockRead
+    requires { ⌜ at ≤ length (now part) ⌝ }
+    ensures { λ r. ⌜ blockOf (now (part .entry)) r ≡ blockBy (shapeAt (drop at (now (part .entry)))) ⌝ }
+    ensures inside { λ r. ⌜ BlockInside (now (part .entry)) r ⌝ }
+{
+    match text_at(part, at) {
+        TextRead::At(text) => from_composite(part, text),
+        TextRead::Missing => match texts_under(part, at) {
+            TextsRead::At(t) => from_texts(part, t),
+            TextsRead::Missing => BlockRead::Fault(Fault::NotAsDescribed),
+        },
+    }
+}
+
+// The primary part of a block.
+pub fn read_block(part: &[u8]) -> BlockRead
+    ensures { λ r. ⌜ blockOf (now (part .entry)) r ≡ block (now (part .entry)) ⌝ }
+    ensures inside { λ r. ⌜ BlockInside (now (part .entry)) r ⌝ }
+{
+    if !fills(part) {
+        return BlockRead::Fault(Fault::NotWhole);
+    }
+    match msgpack::map_value(part, &IDENTIFIER) {
+        Found::At(at) => identifier_at(part, at),
+        Found::Missing => BlockRead::Fault(Fault::NotAsDescribed),
+        Found::Broken => BlockRead::Fault(Fault::NotAsDescribed),
+    }
+}
+
+// The delete flag of a version's map.
+fn deleted_under(part: &[u8]) -> Boolean
+    ensures { λ r. ⌜ booleanOf r ≡ deletedUnder (now (part .entry)) ⌝ }
+{
+    match msgpack::map_value(part, &DELETED) {
+        Found::At(at) => msgpack::read_boolean(&part[at..]),
+        Found::Missing => Boolean::Read(false),
+        Found::Broken => Boolean::Missing,
+    }
+}
+
+// The primary part of a version.
+pub fn read_version(part: &[u8]) -> VersionRead
+    ensures { λ r. ⌜ versionOf (now (part .entry)) r ≡ version (now (part .entry)) ⌝ }
+    ensures inside { λ r. ⌜ VersionInside (now (part .entry)) r ⌝ }
+{
+    if !fills(part) {
+        return VersionRead::Fault(Fault::NotWhole);
+    }
+    let TextsRead::At(t) = texts_under(part, 0) else {
+        return VersionRead::Fault(Fault::NotAsDescribed);
+    };
+    let Boolean::Read(deleted) = deleted_under(part) else {
+        return VersionRead::Fault(Fault::NotAsDescribed);
+    };
+    if is_valid(part, t) {
+        VersionRead::Read(t, deleted)
+    } else {
+        VersionRead::Fault(Fault::RuleBroken)
+    }
+}
+
+// The primary part of a version delete.
+pub fn read_delete(part: &[u8]) -> DeleteRead
+    ensures { λ r. ⌜ versionDeleteOf (now (part .entry)) r ≡ versionDelete (now (part .entry)) ⌝ }
+    ensures inside { λ r. ⌜ DeleteInside (now (part .entry)) r ⌝ }
+{
+    if !fills(part) {
+        return DeleteRead::Fault(Fault::NotWhole);
+    }
+    let TextsRead::At(t) = texts_under(part, 0) else {
+        return DeleteRead::Fault(Fault::NotAsDescribed);
+    };
+    let TextRead::At(id) = text_under(part, 0, &DELETE_ID) else {
+        return DeleteRead::Fault(Fault::NotAsDescribed);
+    };
+    if !is_valid(part, t) {
+        return DeleteRead::Fault(Fault::RuleBroken);
+    }
+    if is_ulid(part, id) {
+        DeleteRead::Read(t, id)
+    } else {
+        DeleteRead::Fault(Fault::RuleBroken)
+    }
+}

@@ -1,0 +1,70 @@
+-- `value::with_list` meets its contract, by how many items the list has.
+use borrow.Author.Needs.{needs}
+use mathlib.Core.Path.{_≡_, sym, ap, _∙_}
+use mathlib.Core.Option.{some}
+use borrow.Author.Tests.{eq-eqb, ne-eqb}
+use native.Mathlib.Omega.{arith}
+use Rattle.msgpack.specs.Formats.{arrayKind}
+use Rattle.msgpack.specs.Readers.{counted, readArray, countedOf}
+use Rattle.value.specs.Header.{withList}
+use Rattle.value.proofs.Lookups.{part-to-end}
+use Rattle.value.proofs.Counts.{counted-inside}
+use Rattle.value.proofs.with_list.Statement.{statement}
+use Rattle.value.proofs.with_list.Tie as tie
+
+items-read : (c : tie.After-known-told) → readArray (c .before .before .before .before .before .args .s .now) ≡ some (counted (c .before .count .given .0 .0) (c .before .count .given .0 .1 .0))
+items-read c = sym (c .before .before .before .read-array .ensures) ∙ ap countedOf (c .before .count .given .1)
+
+read-array-requires : tie.Need-read-array-requires
+read-array-requires c κs = search needs
+
+enum-known-count : tie.Need-enum-known-count
+enum-known-count c = search needs
+
+returns : tie.Need-returns
+unfolding withList
+returns c = rw (items-read (c .before), eq-eqb _ 0 (c .if1 .taken))
+
+sub-with-map : tie.Need-sub-with-map
+sub-with-map c = omega (arith, counted-inside arrayKind _ _ (items-read (c .before .before)))
+
+part-with-map-start : tie.Need-part-with-map-start
+part-with-map-start c = omega (arith, counted-inside arrayKind _ _ (items-read (c .before .before)))
+
+part-with-map-end : tie.Need-part-with-map-end
+part-with-map-end c = search needs
+
+with-map-requires : tie.Need-with-map-requires
+with-map-requires c κs = search needs
+
+returns-2 : tie.Need-returns-2
+unfolding withList
+returns-2 c = let n = c .before .before in
+    c .with-map .ensures ∙ rw (part-to-end, items-read (n .before .before), ne-eqb _ 0 (n .before .if1 .left), eq-eqb _ 1 (n .if2 .taken))
+
+enum-told : tie.Need-enum-told
+enum-told c = search needs
+
+returns-3 : tie.Need-returns-3
+unfolding withList
+returns-3 c = rw (items-read (c .before .before), ne-eqb _ 0 (c .before .if1 .left), ne-eqb _ 1 (c .if2 .left))
+
+returns-4 : tie.Need-returns-4
+unfolding withList
+returns-4 c = rw (sym (c .before .before .read-array .ensures) ∙ ap countedOf (c .enum-told .given .1))
+
+pub with-list-spec : {M : Type 1} → statement M
+with-list-spec =
+    tie.close
+    (tie.spec
+    read-array-requires
+    enum-known-count
+    returns
+    sub-with-map
+    part-with-map-start
+    part-with-map-end
+    with-map-requires
+    returns-2
+    enum-told
+    returns-3
+    returns-4)

@@ -1,0 +1,289 @@
+// The value of a record: the header, which is one MessagePack map, and then the secondary part.
+ghost use mathlib.Core.Path.{_≡_};
+ghost use mathlib.Core.Option.{some};
+ghost use Prim.Native.Nat.{_+_, _≤_};
+ghost use lib.ListN.{length, take, drop};
+ghost use Rattle.endian.specs.Places.{numberOf as numberRead};
+ghost use Rattle.msgpack.specs.Readers.{partOf, readBinary};
+ghost use Rattle.pack.specs.Reading.{packLimit};
+ghost use Rattle.value.specs.Fields.{readNatural, naturalUnder, shifted, bytesUnder, isThere};
+ghost use Rattle.value.specs.Header.{alone, withMap, withList, header, toldOf};
+ghost use Rattle.value.specs.Reading.{filled, reading, numberOf, answerOf, primaryPart, secondaryPart, IsPart};
+use endian::Number;
+use msgpack::Content;
+use msgpack::Found;
+use msgpack::Integer;
+use msgpack::Items;
+use msgpack::Passed;
+use tlv::RecordHeader;
+
+// Refusals 9 to 12 of document 01.
+pub enum Fault {
+    // The value begins with no whole item.
+    Cut,
+    TooDeep,
+    // The first item is no header as described.
+    Header,
+    // Header and secondary part do not fill the value.
+    NotFilled,
+}
+
+// The number of a refusal, as document 01 has it.
+pub fn number(f: Fault) -> u8
+    ensures { λ r. ⌜ r ≡ numberOf f ⌝ }
+{
+    match f {
+        Fault::Cut => 9,
+        Fault::TooDeep => 10,
+        Fault::Header => 11,
+        Fault::NotFilled => 12,
+    }
+}
+
+// A part of a value: where it stands; `c`, its compression; and whether `z` is there, which tells of
+// its encryption.
+pub struct Part {
+    pub start: usize,
+    pub len: usize,
+    pub compression: u64,
+    pub encrypted: bool,
+}
+
+// What a value tells: `v`, the parts, and whether a secondary part is present. Where none is, it has
+// length 0 and the primary's `c` and `z`, and starts at the header's end.
+pub struct Told {
+    pub version: u64,
+    pub primary: Part,
+    pub present: bool,
+    pub secondary: Part,
+}
+
+// What a value tells, or why it is refused.
+pub enum Reading {
+    Told(Told),
+    Refused(Fault),
+}
+
+// ---- what stands under a key of a map
+
+// The integer of at least 0 at the front of s.
+fn natural_at(s: &[u8]) -> Number
+    ensures { λ r. ⌜ numberRead r ≡ readNatural (now (s .entry)) ⌝ }
+{
+    match msgpack::read_integer(s) {
+        Integer::NonNegative(n) => Number::Read(n),
+        Integer::Negative(_) => Number::Missing,
+        Integer::Missing => Number::Missing,
+    }
+}
+
+// The integer of at least 0 under a key; absent, where the map has no such key.
+fn natural_under(map: &[u8], key: &[u8], absent: Number) -> Number
+    ensures { λ r. ⌜ numberRead r ≡ naturalUnder (now (key .entry)) (now (map .entry)) (numberRead absent) ⌝ }
+{
+    match msgpack::map_value(map, key) {
+        Found::At(p) => natural_at(&map[p..]),
+        Found::Missing => absent,
+        Found::Broken => Number::Missing,
+    }
+}
+
+// The bytes at a place; what is told of them is counted from the front of the map.
+fn bytes_at(map: &[u8], p: usize) -> Content
+    requires { ⌜ p ≤ length (now map) ⌝ }
+    ensures { λ r. ⌜ partOf r ≡ shifted p (readBinary (drop p (now (map .entry)))) ⌝ }
+{
+    match msgpack::read_binary(&map[p..]) {
+        Content::Part { start, len } => Content::Part {
+            start: p + start,
+            len,
+        },
+        Content::Missing => Content::Missing,
+    }
+}
+
+// The bytes under a key.
+fn bytes_under(map: &[u8], key: &[u8]) -> Content
+    ensures { λ r. ⌜ partOf r ≡ bytesUnder (now (key .entry)) (now (map .entry)) ⌝ }
+{
+    match msgpack::map_value(map, key) {
+        Found::At(p) => bytes_at(map, p),
+        Found::Missing => Content::Missing,
+        Found::Broken => Content::Missing,
+    }
+}
+
+// Whether a key is there, with any value.
+fn is_there(map: &[u8], key: &[u8]) -> bool
+    ensures { λ r. ⌜ r ≡ isThere (now (key .entry)) (now (map .entry)) ⌝ }
+{
+    match msgpack::map_value(map, key) {
+        Found::At(_) => true,
+        Found::Missing => false,
+        Found::Broken => false,
+    }
+}
+
+// ---- the header
+
+// What a header tells, or that it is not as document 01 describes it.
+enum Described {
+    As(Told),
+    Not,
+}
+
+// What the header tells where it lists no secondary part.
+fn alone(map: &[u8]) -> Described
+    ensures { λ r. ⌜ toldOf r ≡ alone (now (map .entry)) ⌝ }
+{
+    let Content::Part { start, len } = bytes_under(map, b"e") else {
+        return Described::Not;
+    };
+    let Number::Read(compression) = natural_under(map, b"c", Number::Read(0)) else {
+        return Described::Not;
+    };
+    let Number::Read(version) = natural_under(map, b"v", Number::Read(0)) else {
+        return Described::Not;
+    };
+    let encrypted = is_there(map, b"z");
+    Described::As(Told {
+        version,
+        primary: Part {
+            start,
+            len,
+            compression,
+            encrypted,
+        },
+        present: false,
+        secondary: Part {
+            start: map.len(),
+            len: 0,
+            compression,
+            encrypted,
+        },
+    })
+}
+
+// The same with the secondary part of which the map in `s` tells.
+fn with_map(t: Told, map: &[u8]) -> Described
+    ensures { λ r. ⌜ toldOf r ≡ withMap packLimit t (now (map .entry)) ⌝ }
+{
+    let primary = t.primary;
+    let part = t.secondary;
+    let Number::Read(l) = natural_under(map, b"l", Number::Missing) else {
+        return Described::Not;
+    };
+    let len = l as usize;
+    if RecordHeader::LIMIT < len {
+        return Described::Not;
+    }
+    let Number::Read(compression) = natural_under(map, b"c", Number::Read(part.compression)) else {
+        return Described::Not;
+    };
+    let encrypted = is_there(map, b"z") | part.encrypted;
+    Described::As(Told {
+        version: t.version,
+        primary,
+        present: true,
+        secondary: Part {
+            start: part.start,
+            len,
+            compression,
+            encrypted,
+        },
+    })
+}
+
+// The same with the list at the front of s, which is of no item or of one map.
+fn with_list(t: Told, s: &[u8]) -> Described
+    ensures { λ r. ⌜ toldOf r ≡ withList packLimit t (now (s .entry)) ⌝ }
+{
+    match msgpack::read_array(s) {
+        Items::Counted { count, size } => {
+            if count == 0 {
+                return Described::As(t);
+            }
+            if count == 1 {
+                return with_map(t, &s[size..]);
+            }
+            Described::Not
+        }
+        Items::Missing => Described::Not,
+    }
+}
+
+// The header, which is a whole map.
+fn header(map: &[u8]) -> Described
+    ensures { λ r. ⌜ toldOf r ≡ header packLimit (now (map .entry)) ⌝ }
+{
+    let Described::As(t) = alone(map) else {
+        return Described::Not;
+    };
+    match msgpack::map_value(map, b"s") {
+        Found::At(p) => with_list(t, &map[p..]),
+        Found::Missing => Described::As(t),
+        Found::Broken => Described::Not,
+    }
+}
+
+// ---- the value
+
+// The value by its first n bytes, which are the header.
+fn filled(value: &[u8], n: usize) -> Reading
+    requires { ⌜ n ≤ length (now value) ⌝ }
+    ensures { λ r. ⌜ answerOf r ≡ filled n (now (value .entry)) (header packLimit (take n (now (value .entry)))) ⌝ }
+{
+    match header(&value[..n]) {
+        Described::As(t) => {
+            let part = t.secondary;
+            if part.len == value.len() - n {
+                Reading::Told(t)
+            } else {
+                Reading::Refused(Fault::NotFilled)
+            }
+        }
+        Described::Not => Reading::Refused(Fault::Header),
+    }
+}
+
+// What a value tells. The refusals are tested in the order of their numbers.
+pub fn read(value: &[u8]) -> Reading
+    ensures { λ r. ⌜ answerOf r ≡ reading packLimit (now (value .entry)) ⌝ }
+{
+    match msgpack::pass_over(value) {
+        Passed::Whole(n) => filled(value, n),
+        Passed::Cut => Reading::Refused(Fault::Cut),
+        Passed::TooDeep => Reading::Refused(Fault::TooDeep),
+    }
+}
+
+// A part that lies inside the value.
+fn part_of(value: &[u8], part: Part) -> &[u8]
+    requires { ⌜ part .start + part .len ≤ length (now value) ⌝ }
+    ensures { λ r. ⌜ IsPart (now (value .entry)) part (now r) ⌝ }
+{
+    let start = part.start;
+    let end = start + part.len;
+    &value[start..end]
+}
+
+// The primary part, as a part of the value; of a refused value the empty part.
+pub fn primary(value: &[u8]) -> &[u8]
+    ensures { λ r. ⌜ IsPart (now (value .entry)) (primaryPart (reading packLimit (now (value .entry)))) (now r) ⌝ }
+{
+    match read(value) {
+        Reading::Told(t) => part_of(value, t.primary),
+        Reading::Refused(_) => &value[..0],
+    }
+}
+
+// The secondary part, as a part of the value; of a refused value, and where none is present, the
+// empty part.
+pub fn secondary(value: &[u8]) -> &[u8]
+    ensures { λ r. ⌜ IsPart (now (value .entry)) (secondaryPart (reading packLimit (now (value .entry)))) (now r) ⌝ }
+{
+    match read(value) {
+        Reading::Told(t) => part_of(value, t.secondary),
+        Reading::Refused(_) => &value[..0],
+    }
+}
