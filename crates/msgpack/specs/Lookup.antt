@@ -50,3 +50,20 @@ lastValue key s =
     cond (eqb (headOf s .kind) mapKind)
     (lastWhere (passItem depthAllowed) (keyAt key) (headOf s .count) (headOf s .size) (drop (headOf s .size) s) missing)
     broken
+
+-- ---- what stands under a key
+
+-- by where the last value of a key stands: `read` tells what is there; `absent` is told where the map has no such key; none where there is no map
+abbrev pub atPlace : {A : Type 0} → Option A → (ℕ → Option A) → Place → Option A
+atPlace absent read (found p) = read p
+atPlace absent read missing = absent
+atPlace absent read broken = none
+
+-- the last value of `key` in the map m
+unfoldable pub under : {A : Type 0} → List ℕ → List ℕ → Option A → (ℕ → Option A) → Option A
+under key m absent read = atPlace absent read (lastValue key m)
+
+-- `next` of what is there
+abbrev pub ifThere : {A B : Type 0} → Option A → (A → Option B) → Option B
+ifThere (some a) next = next a
+ifThere none next = none

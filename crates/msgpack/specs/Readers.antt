@@ -34,6 +34,11 @@ part start size = record { start = start; size = size }
 abbrev pub content : List ℕ → Part → List ℕ
 content s p = take (p .size) (drop (p .start) s)
 
+-- the content of a part that is there
+abbrev pub contentOfPart : List ℕ → Option Part → Option (List ℕ)
+contentOfPart s (some p) = some (content s p)
+contentOfPart s none = none
+
 unfoldable pub contentAt : ℕ → List ℕ → Option Part
 contentAt kind s =
     cond (isWhole kind (headOf s) (length s)) (some (part (headOf s .size) (headOf s .count))) none

@@ -11,14 +11,14 @@ use lib.Seq.{drop-drop, drop-append-seam, drop-append-add}
 use Rattle.endian.specs.Bytes.{sameBytes}
 use Rattle.msgpack.specs.Formats.{mapKind}
 use Rattle.msgpack.specs.Items.{headOf, passItem, depthAllowed}
-use Rattle.msgpack.specs.Readers.{Part, readText}
+use Rattle.msgpack.specs.Readers.{Part, contentOfPart, readText}
 use Rattle.msgpack.specs.Lookup.{contentIs, keyAt, Place, found, missing, broken, lastWhere, lastValue}
 use Rattle.msgpack_model.specs.Values.{Value, Map, Pairs, no-pairs, pair, countPairs, depth, pairsDepth, asText, asMap}
 use Rattle.msgpack_model.specs.Encoding.{MapHead, Encodes, scalar, array, map, EncodesPairs, no-pair, next-pair}
 use Rattle.msgpack_model.specs.Heads.{scalar-flat, array-begins, map-begins}
 use Rattle.msgpack_model.specs.Complete.{complete}
 use Rattle.msgpack_model.specs.Scalars.{flat-front}
-use Rattle.msgpack_model.specs.Readers.{contentOfPart, text-reads, scalar-no-map}
+use Rattle.msgpack_model.specs.Readers.{text-reads, scalar-no-map}
 
 -- ---- the lookup in values
 

@@ -13,7 +13,7 @@ use Rattle.endian.specs.Bytes.{AllBytes}
 use Rattle.endian.specs.Numbers.{big}
 use Rattle.msgpack.specs.Formats.{booleanKind, integerKind, textKind, binaryKind, arrayKind, mapKind}
 use Rattle.msgpack.specs.Items.{Head, head, headOf}
-use Rattle.msgpack.specs.Readers.{isWhole, Part, part, content, contentAt, readText, readBinary, readBoolean, Int, integerOf, readInteger, Counted, counted, countAt, readArray, readMap}
+use Rattle.msgpack.specs.Readers.{isWhole, Part, part, content, contentOfPart, contentAt, readText, readBinary, readBoolean, Int, integerOf, readInteger, Counted, counted, countAt, readArray, readMap}
 use Rattle.msgpack.specs.HeadLaws.{absurd-numbers}
 use Rattle.msgpack.specs.ReaderLaws.{is-whole}
 use Rattle.msgpack.specs.Tables.{agree}
@@ -22,11 +22,6 @@ use Rattle.msgpack_model.specs.Encoding.{ArrayHead, MapHead, Scalar, Enc
 use Rattle.msgpack_model.specs.Heads.{scalarOf, scalar-flat, of-scalar, array-begins, map-begins}
 use Rattle.msgpack_model.specs.Rows.{Front, no-item, scalar-item, array-item, map-item, front}
 use Rattle.msgpack_model.specs.Scalars.{contentOf, scalarAt, ScalarFront, flat-front, flat-value, There, scalar-there}
-
--- the content of a part that was read
-abbrev pub contentOfPart : List ℕ → Option Part → Option (List ℕ)
-contentOfPart s (some p) = some (content s p)
-contentOfPart s nothing = nothing
 
 -- ---- at a scalar
 

@@ -11,13 +11,13 @@ use lib.Dec.{ltb}
 use lib.ListN.{length, length-append}
 use Rattle.endian.specs.Bytes.{AllBytes}
 use Rattle.endian.specs.Numbers.{littleBytes, big-lt, bigBytes, length-bigBytes, bigBytes-bytes, big-of-bytes}
-use Rattle.msgpack.specs.Readers.{plus, readText, readBinary, readInteger, counted, countAt, readArray, readMap}
+use Rattle.msgpack.specs.Readers.{plus, contentOfPart, readText, readBinary, readInteger, counted, countAt, readArray, readMap}
 use Rattle.msgpack.specs.Writers.{Form, form, formBytes, sizedForm, textForm, unsignedForm, containerForm, textHead, binaryHead, unsignedInteger, arrayHead, mapHead}
 use Rattle.msgpack_model.specs.Values.{Integer, Text, Binary, Array, Map, Values, Pairs, countValues, countPairs}
 use Rattle.msgpack_model.specs.Encoding.{Number, non-negative, TextHead, fixstr, str8, str16, str32, BinaryHead, bin8, bin16, bin32, ArrayHead, fixarray, array16, array32, MapHead, fixmap, map16, map32}
 use Rattle.msgpack_model.specs.Encoding.{positive-fixint, uint8, uint16, uint32, uint64, int8, int16, int32, int64, text, binary, Encodes, scalar, array, map, EncodesValues, EncodesPairs}
 use Rattle.msgpack_model.specs.Heads.{array-begins, map-begins}
-use Rattle.msgpack_model.specs.Readers.{contentOfPart, integer-reads, text-reads, binary-reads}
+use Rattle.msgpack_model.specs.Readers.{integer-reads, text-reads, binary-reads}
 
 -- ---- the bytes of a number
 

@@ -10,10 +10,10 @@ use Rattle.msgpack.specs.Formats.{textKind}
 use Rattle.msgpack.specs.Readers.{part, readText}
 use Rattle.msgpack.specs.ReaderLaws.{part-inside}
 use Rattle.msgpack.specs.HeadLaws.{absurd-numbers}
-use Rattle.msgpack.specs.Lookup.{Place, found, lastValue}
+use Rattle.msgpack.specs.Lookup.{Place, found, lastValue, atPlace, under}
 use Rattle.msgpack.specs.LookupLaws.{value-inside}
 use Rattle.identifier.specs.Texts.{part-all}
-use Rattle.primary.specs.Parts.{valueAt, textAt, textUnder}
+use Rattle.primary.specs.Parts.{textAt, textUnder}
 use Rattle.primary.specs.Answers.{Inside, AllInside, TextInside, TextsInside}
 use Rattle.primary.specs.declared.Text.{Text}
 use Rattle.primary.specs.declared.Texts.{Texts}
@@ -65,8 +65,8 @@ module _ (s : List ℕ) (at : ℕ) (within : at ≤ length s) where
   -- ---- a value
 
   module _ (key : List ℕ) where
-    pub text-under-is : (p : Place) → p ≡ lastValue key rest → valueAt textAt none (drop at s) p ≡ textUnder key (drop at s)
-    unfolding textUnder
+    pub text-under-is : (p : Place) → p ≡ lastValue key rest → atPlace none (λ n. textAt (drop n (drop at s))) p ≡ textUnder key (drop at s)
+    unfolding textUnder under
     text-under-is p e = rw (e, part-all at s)
 
     module _ (n : ℕ) (e : found n ≡ lastValue key rest) where

@@ -5,14 +5,14 @@ use mathlib.Core.List.{List}
 use mathlib.Core.Option.{Option, none, some}
 use mathlib.Core.Path.{_≡_, sym, subst}
 use native.Mathlib.Omega.{arith}
-use lib.ListN.{length}
+use lib.ListN.{length, drop}
 use Rattle.msgpack.specs.HeadLaws.{absurd-numbers}
-use Rattle.msgpack.specs.Lookup.{Place, found, lastValue}
+use Rattle.msgpack.specs.Lookup.{Place, found, lastValue, atPlace, under}
 use Rattle.msgpack.specs.LookupLaws.{value-inside}
 use Rattle.msgpack.specs.Readers.{readBoolean}
 use Rattle.identifier.specs.Ulid.{isUlid}
 use Rattle.identifier.specs.Identity.{Identity, isValid, identityOf}
-use Rattle.primary.specs.Parts.{Answer, refused, read, fills, ifFills, valueAt, textAt, textUnder, textsBy, textsUnder, ulidKey, bucketKey, objectKey, identifierKey, deletedKey, deleteIdKey, deletedUnder, valid, ulidOf, shapeOf, shapeAt, shapeUnder, blockBy, block, versionBy, version, versionDeleteBy, versionDelete}
+use Rattle.primary.specs.Parts.{Answer, refused, read, fills, ifFills, textAt, textUnder, textsBy, textsUnder, ulidKey, bucketKey, objectKey, identifierKey, deletedKey, deleteIdKey, deletedUnder, valid, ulidOf, shapeOf, shapeAt, shapeUnder, blockBy, block, versionBy, version, versionDeleteBy, versionDelete}
 use Rattle.primary.specs.Answers.{Inside, AllInside, BlockInside, VersionInside, DeleteInside}
 use Rattle.primary.specs.declared.Text.{Text}
 use Rattle.primary.specs.declared.Texts.{Texts}
@@ -66,8 +66,8 @@ module _ (s : List ℕ) where
   unfolding shapeAt
   shape-is t i e f = rw (e, f)
 
-  pub deleted-is : (p : Place) → p ≡ lastValue deletedKey s → valueAt readBoolean (some false) s p ≡ deletedUnder s
-  unfolding deletedUnder
+  pub deleted-is : (p : Place) → p ≡ lastValue deletedKey s → atPlace (some false) (λ n. readBoolean (drop n s)) p ≡ deletedUnder s
+  unfolding deletedUnder under
   deleted-is p e = rw e
 
 -- ---- the parts
@@ -76,8 +76,8 @@ pub cut : {A : Type 0} (s : List ℕ) (next : Answer A) → fills s ≡ false �
 cut s next w = rw w
 
 module _ (s : List ℕ) (w : fills s ≡ true) where
-  pub block-is : (p : Place) → p ≡ lastValue identifierKey s → blockBy (valueAt shapeAt none s p) ≡ block s
-  unfolding block shapeUnder
+  pub block-is : (p : Place) → p ≡ lastValue identifierKey s → blockBy (atPlace none (λ n. shapeAt (drop n s)) p) ≡ block s
+  unfolding block shapeUnder under
   block-is p e = rw (w, e)
 
   pub version-tested : (i : Identity) (d t : Bool) → some i ≡ textsUnder s → some d ≡ deletedUnder s → t ≡ isValid i → cond t (read (record { identifier = i; deleted = d })) (refused 18) ≡ version s

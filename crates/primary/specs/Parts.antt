@@ -6,8 +6,8 @@ use mathlib.Core.Option.{Option, none, some}
 use lib.Dec.{eqb}
 use lib.ListN.{length, drop}
 use Rattle.msgpack.specs.Items.{Passage, whole, cut, tooDeep, passItem, depthAllowed}
-use Rattle.msgpack.specs.Readers.{Part, content, readText, readBoolean}
-use Rattle.msgpack.specs.Lookup.{Place, found, missing, broken, lastValue}
+use Rattle.msgpack.specs.Readers.{contentOfPart, readText, readBoolean}
+use Rattle.msgpack.specs.Lookup.{under, ifThere}
 use Rattle.identifier.specs.Ulid.{isUlid}
 use Rattle.identifier.specs.Identity.{Identity, identity, identityOf}
 use Rattle.identifier.specs.Composite.{identityIn}
@@ -22,10 +22,6 @@ pub data Answer (A : Type 0) : Type 0 where
 abbrev pub orRefused : {A B : Type 0} → ℕ → Option A → (A → Answer B) → Answer B
 orRefused number (some a) next = next a
 orRefused number none next = refused number
-
-abbrev pub ifThere : {A B : Type 0} → Option A → (A → Option B) → Option B
-ifThere (some a) next = next a
-ifThere none next = none
 
 -- ---- 16: one whole item fills the part, its depth counted from its own outermost container
 
@@ -63,23 +59,13 @@ deleteIdKey = 63 ∷ 63 ∷ 63 ∷ []  -- ???
 
 -- ---- 17: what stands under a key
 
--- what `reader` finds at a place of s; `absent` where the map has no such key; none where there is no map
-abbrev pub valueAt : {A : Type 0} → (List ℕ → Option A) → Option A → List ℕ → Place → Option A
-valueAt reader absent s (found p) = reader (drop p s)
-valueAt reader absent s missing = absent
-valueAt reader absent s broken = none
-
-abbrev pub contentOf : List ℕ → Option Part → Option (List ℕ)
-contentOf s (some p) = some (content s p)
-contentOf s none = none
-
 -- the text at the front
 unfoldable pub textAt : List ℕ → Option (List ℕ)
-textAt s = contentOf s (readText s)
+textAt s = contentOfPart s (readText s)
 
 -- the text under a key of the map at the front
 unfoldable pub textUnder : List ℕ → List ℕ → Option (List ℕ)
-textUnder key s = valueAt textAt none s (lastValue key s)
+textUnder key s = under key s none (λ p. textAt (drop p s))
 
 abbrev pub textsBy : Option (List ℕ) → Option (List ℕ) → Option (List ℕ) → Option Identity
 textsBy ulid bucket object =
@@ -94,7 +80,7 @@ textsUnder s = textsBy (textUnder ulidKey s) (textUnder bucketKey s) (textUnder 
 
 -- the delete flag of the map at the front; absent means false
 unfoldable pub deletedUnder : List ℕ → Option Bool
-deletedUnder s = valueAt readBoolean (some false) s (lastValue deletedKey s)
+deletedUnder s = under deletedKey s (some false) (λ p. readBoolean (drop p s))
 
 -- ---- 18: the rules for texts
 
@@ -121,7 +107,7 @@ unfoldable pub shapeAt : List ℕ → Option Shape
 shapeAt s = shapeOf (textAt s) (textsUnder s)
 
 unfoldable pub shapeUnder : List ℕ → Option Shape
-shapeUnder s = valueAt shapeAt none s (lastValue identifierKey s)
+shapeUnder s = under identifierKey s none (λ p. shapeAt (drop p s))
 
 abbrev pub identityBy : Shape → Option Identity
 identityBy (composite t) = identityIn t

@@ -6,11 +6,10 @@ use mathlib.Core.Path.{_≡_, sym, ap, _∙_}
 use native.Mathlib.Omega.{arith}
 use lib.ListN.{length, take, drop, length-drop}
 use lib.Seq.{take-all}
-use Rattle.msgpack.specs.Lookup.{found, missing, broken, placeOf, lastValue}
+use Rattle.msgpack.specs.Lookup.{found, missing, broken, placeOf, lastValue, under}
 use Rattle.msgpack.specs.LookupLaws.{value-inside}
 use Rattle.msgpack.specs.declared.Found.{Found}
 use Rattle.msgpack.specs.declared.Found.the-variants.{At, Missing, Broken}
-use Rattle.value.specs.Fields.{under}
 
 -- the part of s from k to its end
 pub part-to-end : (k : ℕ) (s : List ℕ) → take (length s - k) (drop k s) ≡ drop k s

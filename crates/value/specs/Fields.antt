@@ -5,17 +5,7 @@ use mathlib.Core.List.{List}
 use mathlib.Core.Option.{Option, none, some}
 use lib.ListN.{drop}
 use Rattle.msgpack.specs.Readers.{Int, plus, minus, readInteger, Part, part, readBinary}
-use Rattle.msgpack.specs.Lookup.{Place, found, missing, broken, lastValue}
-
--- by where the last value of a key stands: `read` tells what is there; `absent` is told where the map has no such key
-abbrev pub atPlace : {A : Type 0} → Option A → (ℕ → Option A) → Place → Option A
-atPlace absent read (found p) = read p
-atPlace absent read missing = absent
-atPlace absent read broken = none
-
--- the last value of `key` in the map m
-unfoldable pub under : {A : Type 0} → List ℕ → List ℕ → Option A → (ℕ → Option A) → Option A
-under key m absent read = atPlace absent read (lastValue key m)
+use Rattle.msgpack.specs.Lookup.{Place, found, missing, broken, lastValue, under}
 
 -- ---- an integer of at least 0
 

@@ -7,7 +7,8 @@ use lib.Dec.{leb, eqb}
 use lib.ListN.{length, drop}
 use Rattle.msgpack.specs.Readers.{Counted, readArray}
 use Rattle.msgpack.specs.Readers as msgpack
-use Rattle.value.specs.Fields.{under, naturalUnder, bytesUnder, isThere}
+use Rattle.msgpack.specs.Lookup.{under, ifThere}
+use Rattle.value.specs.Fields.{naturalUnder, bytesUnder, isThere}
 use Rattle.value.specs.declared.Part.{Part}
 use Rattle.value.specs.declared.Told.{Told}
 use Rattle.value.specs.declared.Described.{Described}
@@ -42,11 +43,6 @@ part start len compression encrypted = record { start = start; len = len; compre
 abbrev pub onlyIf : {A : Type 0} → Bool → Option A → Option A
 onlyIf test a = cond test a none
 
--- `next` of what is there
-abbrev pub andThen : {A B : Type 0} → Option A → (A → Option B) → Option B
-andThen (some a) next = next a
-andThen none next = none
-
 -- what is told without a secondary part: that part then has length 0 and the primary's `c` and `z`. Document 01 leaves its start free: here it is the end of the header m
 abbrev pub toldAlone : List ℕ → msgpack.Part → (c v : ℕ) → Told
 toldAlone m bytes c v =
@@ -60,9 +56,9 @@ toldAlone m bytes c v =
 -- what the header m tells where it lists no secondary part
 unfoldable pub alone : List ℕ → Option Told
 alone m =
-    andThen (bytesUnder primaryKey m) λ bytes.
-    andThen (naturalUnder compressionKey m (some 0)) λ c.
-    andThen (naturalUnder versionKey m (some 0)) λ v.
+    ifThere (bytesUnder primaryKey m) λ bytes.
+    ifThere (naturalUnder compressionKey m (some 0)) λ c.
+    ifThere (naturalUnder versionKey m (some 0)) λ v.
     some (toldAlone m bytes c v)
 
 -- t with a secondary part of l bytes; `z` of the map m, in `s`, stands for that part, and otherwise the primary's does
@@ -78,9 +74,9 @@ toldWith t m l c =
 -- the same with the secondary part of which the map m tells; `c` of its own stands for that part, and otherwise the primary's does
 unfoldable pub withMap : ℕ → Told → List ℕ → Option Told
 withMap limit t m =
-    andThen (naturalUnder lengthKey m none) λ l.
+    ifThere (naturalUnder lengthKey m none) λ l.
     onlyIf (leb l limit)
-    (andThen (naturalUnder compressionKey m (some (t .secondary .compression))) λ c.
+    (ifThere (naturalUnder compressionKey m (some (t .secondary .compression))) λ c.
     some (toldWith t m l c))
 
 -- the same with the list at the front of s, which is of no item or of one map
@@ -96,7 +92,7 @@ withList limit t s = withItems limit t s (readArray s)
 
 -- the header m, in which a secondary part has at most `limit` bytes
 unfoldable pub header : ℕ → List ℕ → Option Told
-header limit m = andThen (alone m) λ t. under secondaryKey m (some t) (λ p. withList limit t (drop p m))
+header limit m = ifThere (alone m) λ t. under secondaryKey m (some t) (λ p. withList limit t (drop p m))
 
 -- what each answer of the code's private functions says
 abbrev pub toldOf : Described → Option Told

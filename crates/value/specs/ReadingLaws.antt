@@ -13,13 +13,13 @@ use Rattle.msgpack.specs.Formats.{binaryKind}
 use Rattle.msgpack.specs.Items.{Passage, whole, cut, tooDeep, passOver, depthAllowed}
 use Rattle.msgpack.specs.Readers.{Counted, readArray, readBinary}
 use Rattle.msgpack.specs.Readers as msgpack
-use Rattle.msgpack.specs.Lookup.{Place, found, missing, broken, lastValue}
+use Rattle.msgpack.specs.Lookup.{Place, found, missing, broken, lastValue, atPlace, under, ifThere}
 use Rattle.msgpack.specs.HeadLaws.{absurd-numbers}
 use Rattle.msgpack.specs.PassingLaws.{bounded}
 use Rattle.msgpack.specs.ReaderLaws.{part-inside}
 use Rattle.msgpack.specs.LookupLaws.{value-inside}
-use Rattle.value.specs.Fields.{atPlace, under, naturalUnder, shifted, bytesUnder, isThere}
-use Rattle.value.specs.Header.{primaryKey, secondaryKey, lengthKey, compressionKey, versionKey, onlyIf, andThen, alone, withMap, withItems, withList, header}
+use Rattle.value.specs.Fields.{naturalUnder, shifted, bytesUnder, isThere}
+use Rattle.value.specs.Header.{primaryKey, secondaryKey, lengthKey, compressionKey, versionKey, onlyIf, alone, withMap, withItems, withList, header}
 use Rattle.value.specs.Reading.{Answer, told, refused, filled, byItem, reading}
 use Rattle.value.specs.declared.Told.{Told}
 
@@ -30,9 +30,9 @@ record Next {A B : Type 0} (a : Option A) (next : A → Option B) (b : B) : Type
   is : a ≡ some first
   then-some : next first ≡ some b
 
-and-then : {A B : Type 0} (a : Option A) (next : A → Option B) (b : B) → andThen a next ≡ some b → Next a next b
-and-then (some x) next b e = record { first = x; is = refl; then-some = e }
-and-then none next b e = absurd-numbers (cc)
+if-there : {A B : Type 0} (a : Option A) (next : A → Option B) (b : B) → ifThere a next ≡ some b → Next a next b
+if-there (some x) next b e = record { first = x; is = refl; then-some = e }
+if-there none next b e = absurd-numbers (cc)
 
 only-if : {A : Type 0} (t : Bool) (a : Option A) (b : A) → onlyIf t a ≡ some b → a ≡ some b
 only-if true a b e = e
@@ -67,17 +67,17 @@ record Placed (m : List ℕ) (t : Told) : Type 0 where
 alone-placed : (m : List ℕ) (t : Told) → alone m ≡ some t → Placed m t
 unfolding alone
 alone-placed m t e =
-    let b = and-then (bytesUnder primaryKey m) _ t e in
-    let c = and-then (naturalUnder compressionKey m (some 0)) _ t (b .then-some) in
-    let v = and-then (naturalUnder versionKey m (some 0)) _ t (c .then-some) in
+    let b = if-there (bytesUnder primaryKey m) _ t e in
+    let c = if-there (naturalUnder compressionKey m (some 0)) _ t (b .then-some) in
+    let v = if-there (naturalUnder versionKey m (some 0)) _ t (c .then-some) in
     rw (← some-injective (v .then-some)) (record { primary-is = b .is; after-header = refl })
 
 module _ (limit : ℕ) (m : List ℕ) (t : Told) (placed : Placed m t) (u : Told) where
   map-placed : (s : List ℕ) → withMap limit t s ≡ some u → Placed m u
   unfolding withMap
   map-placed s e =
-      let l = and-then (naturalUnder lengthKey s none) _ u e in
-      let c = and-then (naturalUnder compressionKey s (some (t .secondary .compression))) _ u (only-if (leb (l .first) limit) _ u (l .then-some)) in
+      let l = if-there (naturalUnder lengthKey s none) _ u e in
+      let c = if-there (naturalUnder compressionKey s (some (t .secondary .compression))) _ u (only-if (leb (l .first) limit) _ u (l .then-some)) in
       rw (← some-injective (c .then-some)) (record { primary-is = placed .primary-is; after-header = placed .after-header })
 
   list-placed : (s : List ℕ) → withList limit t s ≡ some u → Placed m u
@@ -96,7 +96,7 @@ module _ (limit : ℕ) (m : List ℕ) (t : Told) (placed : Placed m t) (u : Told
 header-placed : (limit : ℕ) (m : List ℕ) (t : Told) → header limit m ≡ some t → Placed m t
 unfolding header under
 header-placed limit m t e =
-    let a = and-then (alone m) _ t e in
+    let a = if-there (alone m) _ t e in
     by (a .first) (alone-placed m (a .first) (a .is)) (lastValue secondaryKey m) (a .then-some)
   where
     by : (u : Told) → Placed m u → (r : Place) → atPlace (some u) (λ p. withList limit u (drop p m)) r ≡ some t → Placed m t
