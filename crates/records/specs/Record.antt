@@ -1,0 +1,130 @@
+-- One record: what its tag and value tell, and what stands at a place of a pack; refusals 1 to 18, and 20, of document 01.
+use Prim.Native.Nat.{ℕ}
+use mathlib.Core.Bool.{Bool, true, false, cond, not, _||_}
+use mathlib.Core.List.{List, [], _∷_}
+use mathlib.Core.Option.{Option, none, some}
+use lib.Dec.{ltb, leb, eqb}
+use lib.ListN.{length, take, drop}
+use Rattle.tlv.specs.Found.{Row, lowest, Found, end, found, fault, step}
+use Rattle.tlv.specs.declared.RecordHeader.{RecordHeader}
+use Rattle.value.specs.Reading as value
+use Rattle.value.specs.declared.Told.{Told}
+use Rattle.identifier.specs.Identity.{Identity}
+use Rattle.primary.specs.Parts as primary
+use Rattle.primary.specs.Parts.{Answer, refused, read}
+
+-- ---- tags: two letters, as one number
+
+abbrev pub blockTag : ℕ
+blockTag = 0x626b  -- `bk`
+
+abbrev pub versionTag : ℕ
+versionTag = 0x7672  -- `vr`
+
+abbrev pub versionDeleteTag : ℕ
+versionDeleteTag = 0x7664  -- `vd`
+
+unfoldable pub isKnown : ℕ → Bool
+isKnown tag = eqb tag blockTag || eqb tag versionTag || eqb tag versionDeleteTag
+
+-- ---- what the primary part tells
+
+-- the kind of a record, with what that kind alone tells
+pub data Kind : Type 0 where
+  block : Kind
+  version : Bool → Kind  -- whether it is a delete marker
+  versionDelete : List ℕ → Kind  -- the delete identifier
+
+pub record Contents : Type 0 where
+  pub identifier : Identity
+  pub kind : Kind
+
+abbrev pub ofBlock : Answer Identity → Answer Contents
+ofBlock (read i) = read (record { identifier = i; kind = block })
+ofBlock (refused n) = refused n
+
+abbrev pub ofVersion : Answer primary.Version → Answer Contents
+ofVersion (read v) = read (record { identifier = v .identifier; kind = version (v .deleted) })
+ofVersion (refused n) = refused n
+
+abbrev pub ofVersionDelete : Answer primary.VersionDelete → Answer Contents
+ofVersionDelete (read v) = read (record { identifier = v .identifier; kind = versionDelete (v .deleteId) })
+ofVersionDelete (refused n) = refused n
+
+-- the primary part of a record with this tag, which is a known one
+unfoldable pub contents : ℕ → List ℕ → Answer Contents
+contents tag part =
+    cond (eqb tag blockTag) (ofBlock (primary.block part))
+    (cond (eqb tag versionTag) (ofVersion (primary.version part))
+    (ofVersionDelete (primary.versionDelete part)))
+
+-- ---- a record by its tag and value alone
+
+pub record Record : Type 0 where
+  pub told : Told  -- the parts, as places of the value
+  pub contents : Contents
+
+-- 13 to 15: a number, and whether it applies to a value of which t is told
+unfoldable pub toldRows : ℕ → Told → List Row
+toldRows tag t =
+    record { number = 13; applies = not (isKnown tag) }
+    ∷ record { number = 14; applies = not (eqb (t .version) 0) }
+    ∷ record { number = 15; applies = t .primary .encrypted || not (eqb (t .primary .compression) 0) }
+    ∷ []
+
+abbrev pub primaryIn : List ℕ → Told → List ℕ
+primaryIn s t = take (t .primary .len) (drop (t .primary .start) s)
+
+abbrev pub withTold : Told → Answer Contents → Answer Record
+withTold t (read c) = read (record { told = t; contents = c })
+withTold t (refused n) = refused n
+
+abbrev pub unless : {A : Type 0} → Option ℕ → Answer A → Answer A
+unless none next = next
+unless (some n) next = refused n
+
+abbrev pub byValue : ℕ → List ℕ → value.Answer → Answer Record
+byValue tag s (value.told t) = unless (lowest (toldRows tag t)) (withTold t (contents tag (primaryIn s t)))
+byValue tag s (value.refused n) = refused n
+
+-- the record with this tag and the value s, in which a secondary part has at most `limit` bytes
+unfoldable pub recordOf : ℕ → ℕ → List ℕ → Answer Record
+recordOf limit tag s = byValue tag s (value.reading limit s)
+
+-- ---- document 01's "can be read", of a version or version delete: none of 9 to 12 and 14 to 18 applies
+
+abbrev pub isRead : {A : Type 0} → Answer A → Bool
+isRead (read a) = true
+isRead (refused n) = false
+
+unfoldable pub canBeRead : ℕ → ℕ → List ℕ → Bool
+canBeRead limit tag s = isRead (recordOf limit tag s)
+
+-- ---- the record at a place of a pack
+
+-- a record with its value's bytes; 1 to 8 with a place; 9 to 18, and 20, alone
+pub data AtPlace : Type 0 where
+  there : (value : List ℕ) → Record → AtPlace
+  refusedAt : (number place : ℕ) → AtPlace
+  alone : (number : ℕ) → AtPlace
+
+abbrev pub atPlace : List ℕ → Answer Record → AtPlace
+atPlace value (read r) = there value r
+atPlace value (refused n) = alone n
+
+-- the value of a record with this header at a place
+abbrev pub valueAt : List ℕ → ℕ → RecordHeader → List ℕ
+valueAt s at h = take (h .length) (drop 32 (drop at s))
+
+-- by what stands at the place; where none does, the place is not inside
+abbrev pub byStep : ℕ → List ℕ → ℕ → Found → AtPlace
+byStep limit s at end = alone 20
+byStep limit s at (fault n) = refusedAt n at
+byStep limit s at (found h) = atPlace (valueAt s at h) (recordOf limit (h .tag) (valueAt s at h))
+
+-- of the pack s, read under a limit on its length
+unfoldable pub recordAt : ℕ → List ℕ → ℕ → AtPlace
+recordAt limit s at =
+    cond (leb (length s) at) (alone 20)
+    (cond (ltb limit (length s)) (refusedAt 1 0)
+    (byStep limit s at (step (drop at s))))

@@ -1,0 +1,235 @@
+// One record: what its tag and value tell, and the record at a place of a pack. Answers tell places;
+// nothing is copied.
+ghost use mathlib.Core.Path.{_≡_};
+ghost use Prim.Native.Nat.{_+_, _-_, _≤_};
+ghost use lib.ListN.{length, take, drop};
+ghost use Rattle.tlv.specs.Found.{lowest};
+ghost use Rattle.pack.specs.Reading.{packLimit};
+ghost use Rattle.primary.specs.Parts.{block, version, versionDelete};
+ghost use Rattle.records.specs.Record.{isKnown, ofBlock, ofVersion, ofVersionDelete, contents, toldRows, primaryIn, withTold, unless, recordOf, atPlace, recordAt};
+ghost use Rattle.records.specs.Answers.{numberOf, partOf, answerOf, placeOf, PartInside, RecordInside, PlaceInside};
+use primary::BlockRead;
+use primary::DeleteRead;
+use primary::Text;
+use primary::Texts;
+use primary::VersionRead;
+use tlv::RecordHeader;
+use tlv::Step;
+use value::Told;
+
+pub const BLOCK: u16 = 0x626b;
+
+pub const VERSION: u16 = 0x7672;
+
+pub const VERSION_DELETE: u16 = 0x7664;
+
+// Refusals 9 to 18 of document 01.
+pub enum Fault {
+    // 9 to 12.
+    Value(value::Fault),
+    UnknownTag,
+    // `v` is not 0.
+    Version,
+    // The primary part is compressed or encrypted.
+    Encoded,
+    // 16 to 18.
+    Primary(primary::Fault),
+}
+
+// The number of a refusal, as document 01 has it.
+pub fn number(f: Fault) -> u8
+    ensures { λ r. ⌜ r ≡ numberOf f ⌝ }
+{
+    match f {
+        Fault::Value(f) => value::number(f),
+        Fault::UnknownTag => 13,
+        Fault::Version => 14,
+        Fault::Encoded => 15,
+        Fault::Primary(f) => primary::number(f),
+    }
+}
+
+// The kind of a record, with what that kind alone tells.
+pub enum Kind {
+    Block,
+    // Whether it is a delete marker.
+    Version(bool),
+    // The delete identifier.
+    VersionDelete(Text),
+}
+
+// What a record tells: its value's parts, as places of the value; and, as places of the primary part,
+// its identifier and what belongs to its kind.
+pub struct Record {
+    pub told: Told,
+    pub identifier: Texts,
+    pub kind: Kind,
+}
+
+pub enum Reading {
+    Record(Record),
+    Refused(Fault),
+}
+
+// ---- the primary part
+
+enum PartRead {
+    Read(Texts, Kind),
+    Refused(primary::Fault),
+}
+
+fn block(part: &[u8]) -> PartRead
+    ensures { λ r. ⌜ partOf (now (part .entry)) r ≡ ofBlock (block (now (part .entry))) ⌝ }
+    ensures inside { λ r. ⌜ PartInside (now (part .entry)) r ⌝ }
+{
+    match primary::read_block(part) {
+        BlockRead::Read(t) => PartRead::Read(t, Kind::Block),
+        BlockRead::Fault(f) => PartRead::Refused(f),
+    }
+}
+
+fn version(part: &[u8]) -> PartRead
+    ensures { λ r. ⌜ partOf (now (part .entry)) r ≡ ofVersion (version (now (part .entry))) ⌝ }
+    ensures inside { λ r. ⌜ PartInside (now (part .entry)) r ⌝ }
+{
+    match primary::read_version(part) {
+        VersionRead::Read(t, deleted) => PartRead::Read(t, Kind::Version(deleted)),
+        VersionRead::Fault(f) => PartRead::Refused(f),
+    }
+}
+
+fn version_delete(part: &[u8]) -> PartRead
+    ensures { λ r. ⌜ partOf (now (part .entry)) r ≡ ofVersionDelete (versionDelete (now (part .entry))) ⌝ }
+    ensures inside { λ r. ⌜ PartInside (now (part .entry)) r ⌝ }
+{
+    match primary::read_delete(part) {
+        DeleteRead::Read(t, id) => PartRead::Read(t, Kind::VersionDelete(id)),
+        DeleteRead::Fault(f) => PartRead::Refused(f),
+    }
+}
+
+// The primary part of a record with this tag, which is a known one.
+fn contents(tag: u16, part: &[u8]) -> PartRead
+    ensures { λ r. ⌜ partOf (now (part .entry)) r ≡ contents tag (now (part .entry)) ⌝ }
+    ensures inside { λ r. ⌜ PartInside (now (part .entry)) r ⌝ }
+{
+    if tag == BLOCK {
+        return block(part);
+    }
+    if tag == VERSION {
+        return version(part);
+    }
+    version_delete(part)
+}
+
+// ---- the value
+
+fn is_known(tag: u16) -> bool
+    ensures { λ r. ⌜ r ≡ isKnown tag ⌝ }
+{
+    (tag == BLOCK) | (tag == VERSION) | (tag == VERSION_DELETE)
+}
+
+fn with_part(tag: u16, value: &[u8], told: Told) -> Reading
+    requires { ⌜ told .primary .start + told .primary .len ≤ length (now value) ⌝ }
+    ensures { λ r. ⌜ answerOf (now (value .entry)) r ≡ withTold told (contents tag (primaryIn (now (value .entry)) told)) ⌝ }
+    ensures inside { λ r. ⌜ RecordInside (now (value .entry)) r ⌝ }
+{
+    let start = told.primary.start;
+    let end = start + told.primary.len;
+    match contents(tag, &value[start..end]) {
+        PartRead::Read(identifier, kind) => Reading::Record(Record {
+            told,
+            identifier,
+            kind,
+        }),
+        PartRead::Refused(f) => Reading::Refused(Fault::Primary(f)),
+    }
+}
+
+// The tests come in the order of their numbers.
+fn by_told(tag: u16, value: &[u8], told: Told) -> Reading
+    requires { ⌜ told .primary .start + told .primary .len ≤ length (now value) ⌝ }
+    ensures { λ r. ⌜ answerOf (now (value .entry)) r ≡ unless (lowest (toldRows tag told)) (withTold told (contents tag (primaryIn (now (value .entry)) told))) ⌝ }
+    ensures inside { λ r. ⌜ RecordInside (now (value .entry)) r ⌝ }
+{
+    let primary = told.primary;
+    if !is_known(tag) {
+        return Reading::Refused(Fault::UnknownTag);
+    }
+    if told.version != 0 {
+        return Reading::Refused(Fault::Version);
+    }
+    if primary.encrypted | (primary.compression != 0) {
+        return Reading::Refused(Fault::Encoded);
+    }
+    with_part(tag, value, told)
+}
+
+// The record with this tag and value.
+pub fn read(tag: u16, value: &[u8]) -> Reading
+    ensures { λ r. ⌜ answerOf (now (value .entry)) r ≡ recordOf packLimit tag (now (value .entry)) ⌝ }
+    ensures inside { λ r. ⌜ RecordInside (now (value .entry)) r ⌝ }
+{
+    match value::read(value) {
+        value::Reading::Told(t) => by_told(tag, value, t),
+        value::Reading::Refused(f) => Reading::Refused(Fault::Value(f)),
+    }
+}
+
+// ---- the record at a place of a pack
+
+pub enum AtPlace {
+    // The record, and where its value stands in the pack.
+    Record {
+        record: Record,
+        start: usize,
+        len: usize,
+    },
+    // The place is not inside the pack: refusal 20.
+    Outside,
+    // The pack is longer than the limit: refusal 1, at 0.
+    TooLong,
+    // Refusals 2 to 8, at the place.
+    Fault(tlv::Fault, usize),
+    // Refusals 9 to 18.
+    Refused(Fault),
+}
+
+// The record with this tag whose value stands at these places.
+fn read_between(tag: u16, pack: &[u8], start: usize, end: usize) -> AtPlace
+    requires { ⌜ (start ≤ end) × (end ≤ length (now pack)) ⌝ }
+    ensures { λ r. ⌜ placeOf (now (pack .entry)) r ≡ atPlace (take (end - start) (drop start (now (pack .entry)))) (recordOf packLimit tag (take (end - start) (drop start (now (pack .entry))))) ⌝ }
+    ensures inside { λ r. ⌜ PlaceInside (now (pack .entry)) r ⌝ }
+{
+    match read(tag, &pack[start..end]) {
+        Reading::Record(record) => AtPlace::Record {
+            record,
+            start,
+            len: end - start,
+        },
+        Reading::Refused(f) => AtPlace::Refused(f),
+    }
+}
+
+// What stands at a place of a pack, which need not be where a record of the pack starts.
+pub fn read_at(pack: &[u8], at: usize) -> AtPlace
+    ensures { λ r. ⌜ placeOf (now (pack .entry)) r ≡ recordAt packLimit (now (pack .entry)) at ⌝ }
+    ensures inside { λ r. ⌜ PlaceInside (now (pack .entry)) r ⌝ }
+{
+    if pack.len() <= at {
+        return AtPlace::Outside;
+    }
+    if RecordHeader::LIMIT < pack.len() {
+        return AtPlace::TooLong;
+    }
+    match tlv::step_at(pack, at) {
+        Step::End => AtPlace::Outside,
+        Step::Fault(f) => AtPlace::Fault(f, at),
+        Step::Record(h) => {
+            let start = at + RecordHeader::LENGTH;
+            let end = start + h.length as usize;
+            read_between(h.tag, pack, start, end)
+        }
+    }
+}
