@@ -2,4 +2,3 @@ pub mod Reading
 pub mod Acceptance
 pub mod Scan
 pub mod Walk
-pub mod Cases

@@ -88,8 +88,8 @@ byValue tag s (value.told t) = unless (lowest (toldRows tag t)) (withTold t (con
 byValue tag s (value.refused n) = refused n
 
 -- the record with this tag and the value s, in which a secondary part has at most `limit` bytes
-unfoldable pub recordOf : ℕ → ℕ → List ℕ → Answer Record
-recordOf limit tag s = byValue tag s (value.reading limit s)
+unfoldable pub readRecord : ℕ → ℕ → List ℕ → Answer Record
+readRecord limit tag s = byValue tag s (value.reading limit s)
 
 -- ---- document 01's "can be read", of a version or version delete: none of 9 to 12 and 14 to 18 applies
 
@@ -98,7 +98,7 @@ isRead (read a) = true
 isRead (refused n) = false
 
 unfoldable pub canBeRead : ℕ → ℕ → List ℕ → Bool
-canBeRead limit tag s = isRead (recordOf limit tag s)
+canBeRead limit tag s = isRead (readRecord limit tag s)
 
 -- ---- the record at a place of a pack
 
@@ -120,7 +120,7 @@ valueAt s at h = take (h .length) (drop 32 (drop at s))
 abbrev pub byStep : ℕ → List ℕ → ℕ → Found → AtPlace
 byStep limit s at end = alone 20
 byStep limit s at (fault n) = refusedAt n at
-byStep limit s at (found h) = atPlace (valueAt s at h) (recordOf limit (h .tag) (valueAt s at h))
+byStep limit s at (found h) = atPlace (valueAt s at h) (readRecord limit (h .tag) (valueAt s at h))
 
 -- of the pack s, read under a limit on its length
 unfoldable pub recordAt : ℕ → List ℕ → ℕ → AtPlace

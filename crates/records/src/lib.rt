@@ -6,7 +6,7 @@ ghost use lib.ListN.{length, take, drop};
 ghost use Rattle.tlv.specs.Found.{lowest};
 ghost use Rattle.pack.specs.Reading.{packLimit};
 ghost use Rattle.primary.specs.Parts.{block, version, versionDelete};
-ghost use Rattle.records.specs.Record.{isKnown, ofBlock, ofVersion, ofVersionDelete, contents, toldRows, primaryIn, withTold, unless, recordOf, atPlace, recordAt};
+ghost use Rattle.records.specs.Record.{isKnown, ofBlock, ofVersion, ofVersionDelete, contents, toldRows, primaryIn, withTold, unless, readRecord, atPlace, recordAt};
 ghost use Rattle.records.specs.Answers.{numberOf, partOf, answerOf, placeOf, PartInside, RecordInside, PlaceInside};
 use primary::BlockRead;
 use primary::DeleteRead;
@@ -168,7 +168,7 @@ fn by_told(tag: u16, value: &[u8], told: Told) -> Reading
 
 // The record with this tag and value.
 pub fn read(tag: u16, value: &[u8]) -> Reading
-    ensures { λ r. ⌜ answerOf (now (value .entry)) r ≡ recordOf packLimit tag (now (value .entry)) ⌝ }
+    ensures { λ r. ⌜ answerOf (now (value .entry)) r ≡ readRecord packLimit tag (now (value .entry)) ⌝ }
     ensures inside { λ r. ⌜ RecordInside (now (value .entry)) r ⌝ }
 {
     match value::read(value) {
@@ -199,7 +199,7 @@ pub enum AtPlace {
 // The record with this tag whose value stands at these places.
 fn read_between(tag: u16, pack: &[u8], start: usize, end: usize) -> AtPlace
     requires { ⌜ (start ≤ end) × (end ≤ length (now pack)) ⌝ }
-    ensures { λ r. ⌜ placeOf (now (pack .entry)) r ≡ atPlace (take (end - start) (drop start (now (pack .entry)))) (recordOf packLimit tag (take (end - start) (drop start (now (pack .entry))))) ⌝ }
+    ensures { λ r. ⌜ placeOf (now (pack .entry)) r ≡ atPlace (take (end - start) (drop start (now (pack .entry)))) (readRecord packLimit tag (take (end - start) (drop start (now (pack .entry))))) ⌝ }
     ensures inside { λ r. ⌜ PlaceInside (now (pack .entry)) r ⌝ }
 {
     match read(tag, &pack[start..end]) {

@@ -5,7 +5,7 @@ use native.Mathlib.Omega.{arith}
 use Rattle.pack.specs.Reading.{packLimit}
 use Rattle.value.specs.Reading.{told, reading, answerOf}
 use Rattle.value.specs.ReadingLaws.{parts-inside}
-use Rattle.records.specs.Record.{recordOf}
+use Rattle.records.specs.Record.{readRecord}
 use Rattle.records.proofs.Places.{refused-inside}
 use Rattle.records.proofs.read.Statement.{statement}
 use Rattle.records.proofs.read.Tie as tie
@@ -28,11 +28,11 @@ enum-known-f : tie.Need-enum-known-f
 enum-known-f c = search needs
 
 returns : tie.Need-returns
-unfolding recordOf
+unfolding readRecord
 returns c = (c .by-told .ensures .0 ∙ rw (told-is (c .before)), c .by-told .ensures .1)
 
 returns-2 : tie.Need-returns-2
-unfolding recordOf
+unfolding readRecord
 returns-2 c = (rw (sym (c .before .before .before .read .ensures) ∙ ap answerOf (c .before .f .given .1)), refused-inside _ _)
 
 pub read-spec : {M : Type 1} → statement M

@@ -61,9 +61,11 @@ returns-4 c =
 returns-5 : tie.Need-returns-5
 returns-5 c =
     let k = c .before in
-    let b = k .before .before .before .before .before .before .before in
-    (rw (behind-header (b .args .pack .now) (b .args .at) (k .before .h .given .0 .0 .length)) at (c .read-between .ensures .0)
-    ∙ stepped packLimit (b .args .pack .now) (b .args .at) (k .before .before .before .before .before .if1 .left) (k .before .before .before .before .if2 .left) (found (k .before .h .given .0 .0)) (there k), c .read-between .ensures .1)
+    let b = k .before .before .before .before .before .before .before in (
+      rw (behind-header (b .args .pack .now) (b .args .at) (k .before .h .given .0 .0 .length)) at (c .read-between .ensures .0)
+          ∙ stepped packLimit (b .args .pack .now) (b .args .at) (k .before .before .before .before .before .if1 .left) (k .before .before .before .before .if2 .left) (found (k .before .h .given .0 .0)) (there k),
+      c .read-between .ensures .1,
+    )
 
 pub read-at-spec : {M : Type 1} → statement M
 read-at-spec =
