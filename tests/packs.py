@@ -59,8 +59,14 @@ def head(n, short, limit, forms):
     return bytes([byte]) + n.to_bytes(width, "big")
 
 
+class Raw(bytes):
+    """An item encoded already, in a form of its own."""
+
+
 def item(x):
     """A MessagePack item in its shortest form; the keys of a map in the order given."""
+    if isinstance(x, Raw):
+        return x
     if isinstance(x, bool):
         return b"\xc3" if x else b"\xc2"
     if isinstance(x, int):

@@ -1,0 +1,865 @@
+#!/usr/bin/env python3
+"""tests/record_vectors.py [--check]: makes the vectors of crates/record_vectors.
+
+Written from document 01, docs/FORMAT.md and document 001, and not from the definitions that are
+proved. What a vector is to give is said twice here: by the plain reader of this file, and by hand,
+where it is a refusal or stands in the documents. Without arguments the script writes the program's
+stored stdin and stdout; with --check it compares them. That the program prints this stdout is
+checked by rt.
+"""
+import os
+import sys
+from collections import namedtuple
+
+sys.dont_write_bytecode = True
+from packs import Raw, header, item, record, xxh64
+
+CRATE = os.path.join(os.path.dirname(os.path.abspath(__file__)), "..", "crates", "record_vectors")
+BUFFER = 262144
+LIMIT = 4294967295
+
+# ---- a plain reader by document 01
+
+
+class Refusal(Exception):
+    """A number of the refusal sheet, and for 1 to 8 the place."""
+
+
+Item = namedtuple("Item", "type content end")
+Value = namedtuple("Value", "told primary v c z")
+FIXED = {0xC0: ("nil", None), 0xC2: ("boolean", False), 0xC3: ("boolean", True)}
+SIZED = {0xC4: "bytes", 0xC7: "extension", 0xD9: "text"}
+COUNTED = {0xDC: "list", 0xDE: "map"}
+
+
+class Reader:
+    """Reads items from a place of s on."""
+
+    def __init__(self, s, at=0):
+        self.s, self.at = s, at
+
+    def take(self, n):
+        if len(self.s) - self.at < n:
+            raise Refusal("9")
+        self.at += n
+        return self.s[self.at - n : self.at]
+
+    def number(self, width, signed=False):
+        return int.from_bytes(self.take(width), "big", signed=signed)
+
+    def made(self, type, content):
+        return Item(type, content, self.at)
+
+    def container(self, type, count, depth):
+        if depth > 16:
+            raise Refusal("10")
+        if type == "map":
+            content = [(self.item(depth + 1), self.item(depth + 1)) for _ in range(count)]
+        else:
+            content = [self.item(depth + 1) for _ in range(count)]
+        return self.made(type, content)
+
+    def item(self, depth=1):
+        first = self.number(1)
+        if first < 0x80 or first >= 0xE0:
+            return self.made("integer", first if first < 0x80 else first - 256)
+        if first < 0x90:
+            return self.container("map", first - 0x80, depth)
+        if first < 0xA0:
+            return self.container("list", first - 0x90, depth)
+        if first < 0xC0:
+            return self.made("text", self.take(first - 0xA0))
+        if first == 0xC1:
+            raise Refusal("9")
+        if first in FIXED:
+            return self.made(*FIXED[first])
+        if first in (0xCA, 0xCB):
+            return self.made("float", self.take(4 * (first - 0xC9)))
+        if 0xCC <= first <= 0xD3:
+            width = 1 << (first - 0xCC) % 4
+            return self.made("integer", self.number(width, signed=first >= 0xD0))
+        if 0xD4 <= first <= 0xD8:
+            return self.made("extension", self.take(1 + (1 << first - 0xD4)))
+        if first >= 0xDC:
+            width = 4 if first & 1 else 2
+            return self.container(COUNTED[first & 0xFE], self.number(width), depth)
+        start = max(x for x in SIZED if x <= first)
+        size = self.number(1 << first - start)
+        return self.made(SIZED[start], self.take(size + (start == 0xC7)))
+
+
+def under(map, key):
+    """What stands under a key: the last of its values counts."""
+    values = [value for name, value in map.content if (name.type, name.content) == ("text", key)]
+    return values[-1] if values else None
+
+
+def typed(type, found, number):
+    """What is found, if it is of this type."""
+    if found is None or found.type != type:
+        raise Refusal(number)
+    return found.content
+
+
+def natural(found, absent):
+    if found is None and absent is not None:
+        return absent
+    n = typed("integer", found, "11")
+    if n < 0:
+        raise Refusal("11")
+    return n
+
+
+def yes(b):
+    return "yes" if b else "no"
+
+
+def told_part(start, length, c, z):
+    return "%d %d c %d z %s" % (start, length, c, yes(z))
+
+
+def read_value(s):
+    """Refusals 9 to 12, or what the value tells, its primary part, and what 14 and 15 ask."""
+    map = Reader(s).item()
+    if map.type != "map":
+        raise Refusal("11")
+    primary = under(map, b"e")
+    part = typed("bytes", primary, "11")
+    c, v = natural(under(map, b"c"), 0), natural(under(map, b"v"), 0)
+    z = under(map, b"z") is not None
+    listed = under(map, b"s")
+    maps = [] if listed is None else typed("list", listed, "11")
+    word, length, c2, z2 = "absent", 0, c, z
+    if len(maps) > 1:
+        raise Refusal("11")
+    for inner in maps:
+        if inner.type != "map":
+            raise Refusal("11")
+        word, length = "secondary", natural(under(inner, b"l"), None)
+        if length > LIMIT:
+            raise Refusal("11")
+        c2, z2 = natural(under(inner, b"c"), c), z or under(inner, b"z") is not None
+    if map.end + length != len(s):
+        raise Refusal("12")
+    first = told_part(primary.end - len(part), len(part), c, z)
+    told = "v %d primary %s %s %s" % (v, first, word, told_part(map.end, length, c2, z2))
+    return Value(told, part, v, c, z)
+
+
+ALPHABET = b"0123456789ABCDEFGHJKMNPQRSTVWXYZ"
+
+
+def is_ulid(s):
+    return len(s) == 26 and all(byte in ALPHABET for byte in s)
+
+
+def printed(s):
+    return "".join(chr(b) if 0x21 <= b <= 0x7E and b != 0x5C else "\\x%02x" % b for b in s)
+
+
+def identity(ulid, bucket, object):
+    """The three as the program prints them, if they keep the rules."""
+    right = is_ulid(ulid) and 1 <= len(bucket) <= 63 and b"/" not in bucket
+    if not right or not 1 <= len(object) <= 1024:
+        raise Refusal("18")
+    told = (printed(ulid), len(bucket), printed(bucket), len(object), printed(object))
+    return "%s %d %s %d %s" % told
+
+
+def composite(s):
+    bucket, slash, object = s[27:].partition(b"/")
+    if s[26:27] != b":" or not slash:
+        raise Refusal("18")
+    return identity(s[:26], bucket, object)
+
+
+def read_part(s):
+    """The map that fills a primary part."""
+    try:
+        map = Reader(s).item()
+    except Refusal:
+        raise Refusal("16")
+    if map.end != len(s):
+        raise Refusal("16")
+    typed("map", map, "17")
+    return map
+
+
+def texts(map):
+    return [typed("text", under(map, key), "17") for key in (b"v", b"b", b"o")]
+
+
+def read_block(s):
+    found = under(read_part(s), b"I")
+    if found is not None and found.type == "map":
+        return identity(*texts(found)) + " block"
+    return composite(typed("text", found, "17")) + " block"
+
+
+def read_version(s):
+    map = read_part(s)
+    names, flag = texts(map), under(map, b"d")
+    deleted = False if flag is None else typed("boolean", flag, "17")
+    return identity(*names) + " d " + yes(deleted)
+
+
+def read_delete(s):
+    map = read_part(s)
+    names, by = texts(map), typed("text", under(map, b"???"), "17")
+    told = identity(*names)
+    if not is_ulid(by):
+        raise Refusal("18")
+    return told + " by " + printed(by)
+
+
+def read_record(s):
+    """A tag and a value."""
+    kinds = {b"bk": read_block, b"vr": read_version, b"vd": read_delete}
+    tag, value = s[:2], read_value(s[2:])
+    coded = value.c != 0 or value.z
+    for number, fault in [("13", tag not in kinds), ("14", value.v != 0), ("15", coded)]:
+        if fault:
+            raise Refusal(number)
+    return kinds[tag](value.primary) + " " + value.told
+
+
+def read_at(s):
+    """A place, in 8 bytes, and a pack. No pack of a vector is so long that 1 applies."""
+    place, pack = int.from_bytes(s[:8], "big"), s[8:]
+    if place >= len(pack):
+        raise Refusal("20")
+    s = pack[place:]
+    length, value = int.from_bytes(s[8:16], "big"), s[32:]
+    value = value[:length]
+    for number, fault in [
+        (2, len(s) < 32),
+        (3, s[:8] != bytes.fromhex("89544C560D0A1A0A")),
+        (4, s[24:25] != b"\x00"),
+        (5, s[27:28] != b"\x08"),
+        (6, s[30:32] != (xxh64(s[:30]) % 65536).to_bytes(2, "big")),
+        (7, length > len(s) - 32),
+        (8, s[16:24] != xxh64(value).to_bytes(8, "big")),
+    ]:
+        if fault:
+            raise Refusal("%d at %d" % (number, place))
+    return read_record(s[25:27] + value) + " value %d %d" % (place + 32, length)
+
+
+def read_identifier(s):
+    try:
+        return "slash %d read %s" % (s.index(b"/", 27), composite(s))
+    except (Refusal, ValueError):
+        raise Refusal("malformed read malformed")
+
+
+# ---- the vectors
+
+READERS = {
+    "identifier": read_identifier,
+    "value": lambda s: read_value(s).told,
+    "block": read_block,
+    "version": read_version,
+    "delete": read_delete,
+    "record": read_record,
+    "at": read_at,
+}
+inputs, outputs, names = [], [], set()
+
+
+def vector(kind, name, data, wanted=None):
+    """wanted: what is to be refused, by its number, or the whole answer; else that it is read."""
+    try:
+        found, refused = READERS[kind](data), False
+    except Refusal as refusal:
+        found, refused = str(refusal), True
+    name = kind + " " + name
+    right = not refused if wanted is None else found == str(wanted)
+    assert right, "%s: wanted %s, found %s" % (name, wanted or "a reading", found)
+    assert name not in names and "|" not in name, name
+    names.add(name)
+    cut = {"record": 2, "at": 8}.get(kind, 0)
+    shown = (data[:cut].hex() + " " if cut else "") + data[cut:].hex()
+    inputs.append("%s %s | %s: %s\n" % (kind, shown, name, found))
+    outputs.append("%s: %s, %s\n" % (name, found, found))
+
+
+def at(name, place, pack, wanted=None):
+    vector("at", name, place.to_bytes(8, "big") + pack, wanted)
+
+
+def pairs(*given):
+    """A map of any pairs, keys that come twice included."""
+    return Raw(bytes([0x80 + len(given)]) + b"".join(item(x) for pair in given for x in pair))
+
+
+def sized(first, width, n, content=b""):
+    return Raw(bytes([first]) + (n % 256**width).to_bytes(width, "big") + content)
+
+
+def every_text(s):
+    """A short text in every width."""
+    yield "fixstr", Raw(bytes([0xA0 + len(s)]) + s)
+    for k in range(3):
+        yield "str%d" % (8 << k), sized(0xD9 + k, 1 << k, len(s), s)
+
+
+def integers(n):
+    """An integer in every form that holds it."""
+    if -32 <= n < 128:
+        yield "fixint", Raw(bytes([n % 256]))
+    for k in range(8):
+        width, signed = 1 << k % 4, k >= 4
+        low, high = (-(1 << 8 * width - 1), 1 << 8 * width - 1) if signed else (0, 256**width)
+        if low <= n < high:
+            yield ("int%d" if signed else "uint%d") % (8 * width), sized(0xCC + k, width, n)
+
+
+def lists(depth):
+    return Raw(b"\x91" * (depth - 1) + b"\x90")
+
+
+NIL, FLOAT, EXTENSION = Raw(b"\xc0"), Raw(b"\xca\x3f\x80\x00\x00"), Raw(b"\xd4\x05\x00")
+# Keys that are not text, each with a value.
+ODD = [(b"e", 1), (101, 2), (NIL, 3), (True, 4), ([], 5), ({}, 6), (FLOAT, 7), (EXTENSION, 8)]
+ULID = "00000000000000000000000001"
+OTHER = "7ZZZZZZZZZZZZZZZZZZZZZZZZZ"
+HERD = ULID + ":herd/k"
+TOLD = ULID + " 4 herd 1 k"
+BLOCK = TOLD + " block"
+# Breaches of the rules for a ULID.
+ULIDS = [
+    ("of 25 characters", ULID[:25]),
+    ("of 27 characters", ULID + "0"),
+    ("of no characters", ""),
+    ("with a small letter", "0000000000000000000000000a"),
+    *[("with " + x, ULID[:9] + x + ULID[10:]) for x in "ILOU/:@[`{"],
+    ("with a space", ULID[:25] + " "),
+    ("with byte B0", Raw(b"\xba" + ULID[:25].encode() + b"\xb0")),
+]
+
+
+def identifiers():
+    def read(name, text, wanted=None):
+        vector("identifier", name, text if isinstance(text, bytes) else text.encode(), wanted)
+
+    no = "malformed read malformed"
+    printed_001 = "7YGGZJ4YSFMYW6BQVHFKD5KKTV"
+    read(
+        "001:484",
+        printed_001 + ":bucket/object/name.txt",
+        "slash 33 read " + printed_001 + " 6 bucket 15 object/name.txt",
+    )
+    read("001:581", "7YF1QJW74PNYV552JB3YPAJJX1:bucket/object")
+    read("001:822", "7YF1QTCNCDN7FYSQFD2PFH2DCS:bucket/object")
+    read("herd", HERD, "slash 31 read " + TOLD)
+    read("all letters, first half", "0123456789ABCDEFGHJKMNPQRS:b/o")
+    read("all letters, second half", "GHJKMNPQRSTVWXYZ0123456789:b/o")
+    read("greatest ULID of 128 bits", OTHER + ":b/o")
+    read("first letter above 7", "Z" * 26 + ":b/o")
+    read("longest, 1115 bytes", ULID + ":" + "b" * 63 + "/" + "o" * 1024)
+    read("bucket of 64", ULID + ":" + "b" * 64 + "/o", no)
+    read("bucket of 0", ULID + ":/o", no)
+    read("object of 1025", ULID + ":b/" + "o" * 1025, no)
+    read("object of 0", ULID + ":b/", no)
+    read("object with slashes", ULID + ":b//a/c/", "slash 28 read " + ULID + " 1 b 5 /a/c/")
+    read("no slash", ULID + ":bo", no)
+    read("colon in bucket and object", ULID + ":b:/:o")
+    read("bytes that are no UTF-8", ULID.encode() + b":\xff\\/\xfe \x00")
+    read("colon missing", ULID + "b/o", no)
+    read("another byte for the colon", ULID + ";b/o", no)
+    read("empty", "", no)
+    read("ULID alone", ULID, no)
+    read("ULID and colon", ULID + ":", no)
+    for name, ulid in ULIDS[:-1]:
+        read("ULID " + name, ulid + ":b/o", no)
+    read("ULID with byte B0", ULID[:25].encode() + b"\xb0:b/o", no)
+
+
+def herd_block():
+    """The block of 3 bytes of document 01."""
+    part = item({"I": HERD})
+    value = item({"s": [{"l": 3}], "e": part}) + b"abc"
+    made = record(b"bk", value)
+    assert (len(part), len(value), len(made)) == (38, 53, 85)
+    told = "v 0 primary 12 38 c 0 z no secondary 50 3 c 0 z no"
+    vector("block", "herd", part, BLOCK)
+    vector("value", "herd", value, told)
+    vector("record", "herd", b"bk" + value, BLOCK + " " + told)
+    at("herd", 0, made, BLOCK + " " + told + " value 32 53")
+
+
+def document_001():
+    """What the documents print, in the writer's form; 001:584 gives 101 bytes for each block."""
+    pack = b""
+    for k in b"123":
+        data = b"block %c data" % k
+        part = item({"I": "7YF1QJW74PNYV552JB3YPAJJX1:bucket/object"})
+        pack += record(b"bk", item({"s": [{"l": 12}], "e": part}) + data)
+    assert len(pack) == 303
+    for k in range(3):
+        at("block %d of 001:581-583" % (k + 1), 101 * k, pack)
+    at("end of 001:581-583", 303, pack, 20)
+    part = item({"b": "bucket", "o": "object", "v": "7YF1QTCNCDN7FYSQFD2PFH2DCS"})
+    wanted = "7YF1QTCNCDN7FYSQFD2PFH2DCS 6 bucket 6 object d no"
+    vector("version", "001:822", part, wanted)
+    at("version of 001:822", 0, record(b"vr", item({"e": part})))
+    k = bytes.fromhex("82A1739181A16C0CA165C410C40E") + b"value 1 headervalue 1 data"
+    vector("value", "K", k, "v 0 primary 12 16 c 0 z no secondary 28 12 c 0 z no")
+    vector("value", "L", k[:39], 12)
+    vector("record", "K as a block: bytes, no map", b"bk" + k, 17)
+
+
+def values_whole():
+    def read(name, s, wanted=None):
+        vector("value", name, bytes(s), wanted)
+
+    e = {"e": b"pp"}
+    read("header alone", item(e), "v 0 primary 5 2 c 0 z no absent 7 0 c 0 z no")
+    read("s empty", item({**e, "s": []}), "v 0 primary 5 2 c 0 z no absent 10 0 c 0 z no")
+    read("l 0", item({**e, "s": [{"l": 0}]}))
+    read("e empty", item({"e": b""}))
+    read("M, no e", b"\x80", 11)
+    read("M, empty", b"", 9)
+    read("N, depth 16", lists(16), 11)
+    read("N, depth 17", lists(17), 10)
+    read("cut in the header", item(e)[:-1], 9)
+    read("C1 under a key", item({**e, "x": Raw(b"\xc1")}), 9)
+    read("C1 before depth 17", item({"x": Raw(b"\xc1"), "y": lists(16)}), 9)
+    read("depth 17 before C1", item({"y": lists(16), "x": Raw(b"\xc1")}), 10)
+    read("count cut at depth 17", b"\x91" * 16 + b"\xdc\x00", 9)
+    read("header of depth 16", item({**e, "x": lists(15)}))
+    read("header of depth 17", item({**e, "x": lists(16)}), 10)
+    read("depth 17 in a key", item({**e, lists(16): 0}), 10)
+    read("10 before 11", item({"x": lists(16)}), 10)
+    read("1 byte left over", item(e) + b"\x00", 12)
+    read("a byte of 3 missing", item({**e, "s": [{"l": 3}]}) + b"ab", 12)
+    read("a byte beside 3", item({**e, "s": [{"l": 3}]}) + b"abcd", 12)
+    read("l of 4294967295", item({**e, "s": [{"l": LIMIT}]}), 12)
+    read("11 before 12", item({"s": [{"l": 3}]}) + b"ab", 11)
+    read("11 before 12, e text", item({"e": "pp"}) + b"a", 11)
+    for name, x in [("list", [e]), ("text", "e"), ("bytes", b"e"), ("nil", NIL), ("integer", 5)]:
+        read("no map but " + name, item(x), 11)
+    read("no map, and bytes left over", item(5) + b"\x00", 11)
+
+
+WRONG = {
+    "nil": NIL,
+    "false": False,
+    "integer": 1,
+    "-1": Raw(b"\xff"),
+    "text": "1",
+    "bytes": b"1",
+    "float": FLOAT,
+    "list": [1],
+    "map": {"l": 1},
+    "extension": EXTENSION,
+}
+
+
+def wrong(kind, key, made, right, number):
+    """Each type but the right ones under a key."""
+    for name, x in WRONG.items():
+        if name not in right:
+            vector(kind, "%s is %s" % (key, name), made(x), number)
+
+
+def values_wrong():
+    e = {"e": b"pp"}
+    wrong("value", "e", lambda x: item({"e": x}), ["bytes"], 11)
+    wrong("value", "s", lambda x: item({**e, "s": x}), ["list"], 11)
+    wrong("value", "the item in s", lambda x: item({**e, "s": [x]}) + b"a", ["map"], 11)
+    wrong("value", "l", lambda x: item({**e, "s": [{"l": x}]}) + b"a", ["integer"], 11)
+    wrong("value", "c", lambda x: item({**e, "c": x}), ["integer"], 11)
+    wrong("value", "v", lambda x: item({**e, "v": x}), ["integer"], 11)
+    wrong("value", "c in s", lambda x: item({**e, "s": [{"l": 0, "c": x}]}), ["integer"], 11)
+    vector("value", "s of two maps", item({**e, "s": [{"l": 1}, {"l": 1}]}) + b"a", 11)
+    vector("value", "map in s without l", item({**e, "s": [{"c": 1}]}), 11)
+    vector("value", "map in s empty", item({**e, "s": [{}]}), 11)
+    vector("value", "v in s is text", item({**e, "s": [{"l": 0, "v": "x", "e": 5}]}))
+    for name, x in WRONG.items():
+        vector("value", "z is " + name, item({"z": x, **e}))
+        vector("value", "z in s is " + name, item({"s": [{"z": x, "l": 0}], **e}))
+
+
+def values_parts():
+    e = {"e": b"p"}
+    vector("value", "s takes c and z over", item({**e, "c": 7, "z": 1, "s": [{"l": 1}]}) + b"a")
+    vector("value", "s has its own c", item({**e, "c": 7, "z": 1, "s": [{"l": 1, "c": 2}]}) + b"a")
+    vector("value", "s has its own c 0", item({**e, "c": 7, "s": [{"l": 1, "c": 0}]}) + b"a")
+    vector("value", "s has its own z", item({**e, "c": 7, "s": [{"l": 1, "z": NIL}]}) + b"a")
+    vector("value", "absent part takes c and z over", item({**e, "c": 7, "z": 1}))
+    for n in (0, 1, 31, 200, 70000, LIMIT, LIMIT + 1, 2**63 - 1, 2**64 - 1):
+        for form, x in integers(n):
+            forms = "%d as %s" % (n, form)
+            vector("value", "c " + forms, item({**e, "c": x}))
+            vector("value", "v " + forms, item({**e, "v": x}))
+            wanted = 11 if n > LIMIT else 12 if n > 31 else None
+            vector("value", "l " + forms, item({**e, "s": [{"l": x}]}) + b"a" * min(n, 31), wanted)
+    for n in (-1, -33, -129, -32769, -(2**31) - 1, -(2**63)):
+        form, x = next(integers(n))
+        for key, made in [("c", {"c": x}), ("v", {"v": x}), ("l", {"s": [{"l": x}]})]:
+            vector("value", "%s %d as %s" % (key, n, form), item({**e, **made}), 11)
+    for form, x in integers(-1):
+        vector("value", "c in s -1 as " + form, item({**e, "s": [{"l": 0, "c": x}]}), 11)
+
+
+def values_widths():
+    def read(name, s, wanted=None):
+        vector("value", name, s, wanted)
+
+    e, l = item("e") + item(b"p"), item("l") + item(1)
+    for k in range(2):
+        form, width = "in %d bits" % (16 << k), 2 << k
+        read("header " + form, sized(0xDE + k, width, 1, e))
+        read("s " + form, pairs(("e", b"p"), ("s", sized(0xDC + k, width, 1, b"\x81" + l))) + b"a")
+        read("s empty " + form, pairs(("e", b"p"), ("s", sized(0xDC + k, width, 0))))
+        read("map in s " + form, pairs(("e", b"p"), ("s", [sized(0xDE + k, width, 1, l)])) + b"a")
+    for k in range(3):
+        read("e in %d bits" % (8 << k), pairs(("e", sized(0xC4 + k, 1 << k, 2, b"pp"))))
+        long = pairs(("e", sized(0xC4 + k, 1 << k, -1, b"p")))
+        read("e longer than the value in %d bits" % (8 << k), long, 9)
+    read("e of 256 bytes", item({"e": b"p" * 256}))
+    for first, name in [(0xDD, "list"), (0xDF, "map")]:
+        most = sized(first, 4, -1)
+        read(name + " of 2^32-1", most, 9)
+        read(name + " of 2^32-1 under a key", pairs(("e", b"p"), ("s", most)), 9)
+
+
+def values_keys():
+    e = ("e", b"p")
+    told = "v 3 primary %d 2 c 2 z yes secondary %d 1 c 5 z yes"
+    for k in range(4):
+
+        def key(s):
+            return list(every_text(s.encode()))[k][1]
+
+        inner = {key("l"): 1, key("c"): 5, key("z"): 0}
+        more = {key("s"): [inner], key("c"): 2, key("z"): 0, key("v"): 3, key("e"): b"pp"}
+        s = item(more)
+        name = "keys in " + list(every_text(b""))[k][0]
+        vector("value", name, s + b"a", told % (len(s) - 2, len(s)))
+    odd = pairs(*ODD, e, *[("ee", 1), ("", 2), ("E", 3), (Raw(b"\xa1\xff"), FLOAT)])
+    vector("value", "unknown keys and keys of other types", odd)
+    vector("value", "no e but keys of other types", pairs(*ODD), 11)
+    odd = pairs(*[(b"l", 2), (108, 2), ("ll", 2), (Raw(b"\xa1\xff"), 0), ("l", 1), (b"l", 2)])
+    vector("value", "in s unknown keys and keys of other types", pairs(e, ("s", [odd])) + b"a")
+    for form, x in list(every_text(b"e"))[1:]:
+        vector("value", "e again as " + form, pairs(("e", 5), (x, b"q")))
+        vector("value", "e again, wrong, as " + form, pairs((x, b"q"), ("e", 5)), 11)
+    one, two = [{"l": 1}], [{"l": 2}]
+    for name, first, last, wanted in [
+        ("e", [("e", b"p")], [("e", b"qqq")], None),
+        ("c", [("c", 9)], [("c", 4), e], None),
+        ("c, wrong first", [("c", "x")], [("c", 4), e], None),
+        ("c, wrong last", [("c", 4)], [("c", "x"), e], 11),
+        ("v, wrong first", [("v", NIL)], [("v", 4), e], None),
+        ("v, wrong last", [("v", 4)], [("v", NIL), e], 11),
+        ("s", [("s", two)], [("s", one), e], None),
+        ("s, wrong first", [("s", 5)], [("s", one), e], None),
+        ("s, wrong last", [("s", one)], [("s", 5), e], 11),
+        ("s, empty last", [("s", one)], [("s", []), e], 12),
+        ("z", [("z", 1)], [("z", NIL), e], None),
+    ]:
+        data = b"a" if name in ("s", "s, wrong first", "s, empty last") else b""
+        vector("value", "repeated " + name, pairs(*first, *last) + data, wanted)
+    for name, given, wanted in [
+        ("l", [("l", 2), ("l", 1)], None),
+        ("l, wrong first", [("l", "x"), ("l", 1)], None),
+        ("l, wrong last", [("l", 1), ("l", "x")], 11),
+        ("c", [("c", NIL), ("l", 1), ("c", 4)], None),
+        ("c, wrong last", [("c", 4), ("l", 1), ("c", NIL)], 11),
+    ]:
+        s = pairs(("s", [pairs(*given)]), e)
+        vector("value", "in s repeated " + name, s + b"a", wanted)
+
+
+def parts(kind, given):
+    """What holds of the primary parts of all kinds. given: the keys of one that is read."""
+    whole = item(given)
+    vector(kind, "least", whole)
+    vector(kind, "empty part", b"", 16)
+    vector(kind, "a byte left over", whole + b"\x00", 16)
+    vector(kind, "cut", whole[:-1], 16)
+    vector(kind, "C1", b"\xc1", 16)
+    vector(kind, "C1 under a key", item({**given, "x": Raw(b"\xc1")}), 16)
+    vector(kind, "depth 16", item({**given, "x": lists(15)}))
+    vector(kind, "depth 17", item({**given, "x": lists(16)}), 16)
+    for name, x in [("list", [given]), ("nil", NIL), ("text", HERD), ("lists 16 deep", lists(16))]:
+        vector(kind, "no map but " + name, item(x), 17)
+    vector(kind, "lists 17 deep", lists(17), 16)
+    vector(kind, "empty map", item({}), 17)
+    vector(kind, "keys in another case", item({k.swapcase(): x for k, x in given.items()}), 17)
+    vector(kind, "keys as bytes", item({k.encode(): x for k, x in given.items()}), 17)
+    odd = pairs(*ODD, ("", 1), (Raw(b"\xa1\xff"), FLOAT), *given.items())
+    vector(kind, "unknown keys and keys of other types", odd)
+    for k in range(4):
+        form = list(every_text(b""))[k][0]
+        wide = {list(every_text(key.encode()))[k][1]: x for key, x in given.items()}
+        vector(kind, "keys in " + form, item(wide))
+
+
+def identifier_maps(kind, made):
+    """The texts of an identifier, in a map. made: the part for the map's pairs."""
+    right = {"b": "herd", "o": "k", "v": ULID}
+
+    def read(name, wanted=None, **more):
+        vector(kind, name, made(*{**right, **more}.items()), wanted)
+
+    for key in "bov":
+        without = [pair for pair in right.items() if pair[0] != key]
+        vector(kind, "no " + key, made(*without), 17)
+        for name in ("nil", "bytes", "integer", "map"):
+            read("%s is %s" % (key, name), 17, **{key: WRONG[name]})
+        again = (key, right[key])
+        vector(kind, "repeated %s, wrong first" % key, made((key, NIL), *right.items(), again))
+        vector(kind, "repeated %s, wrong last" % key, made(*right.items(), (key, NIL)), 17)
+        broken = made(*right.items(), (key, ""))
+        vector(kind, "repeated %s, empty last" % key, broken, 18)
+    for name, ulid in ULIDS:
+        read("v " + name, 18, v=ulid)
+    read("bucket of 1", b="b")
+    read("bucket of 63", b="b" * 63)
+    read("bucket of 64", 18, b="b" * 64)
+    read("bucket with a slash", 18, b="he/rd")
+    read("bucket is a slash", 18, b="/")
+    read("object of 1024", o="o" * 1024)
+    read("object of 1025", 18, o="o" * 1025)
+    read("object with slashes", o="/a//c/")
+    read("bytes that are no UTF-8", b=Raw(b"\xa2\xff\xfe"), o=Raw(b"\xa3\x80\\\x00"))
+    read("no ULID, object no text, 17 before 18", 17, v="", o=5)
+    for form, x in every_text(ULID.encode()):
+        read("texts in " + form, v=x)
+
+
+def blocks():
+    parts("block", {"I": HERD})
+    map = {"b": "herd", "o": "k", "v": ULID}
+    vector("block", "I as a map", item({"I": map}), BLOCK)
+    vector("block", "I as a map of depth 16", item({"I": {"x": lists(14), **map}}), BLOCK)
+    vector("block", "I as a map of depth 17", item({"I": {"x": lists(15), **map}}), 16)
+    identifier_maps("block", lambda *given: item({"I": pairs(*given)}))
+    wrong("block", "I", lambda x: item({"I": x}), ["text"], 17)
+    vector("block", "I is text, no identifier", item({"I": "1"}), 18)
+    vector("block", "I is bytes of the identifier", item({"I": HERD.encode()}), 17)
+    vector("block", "map in the part itself", item(map), 17)
+    vector("block", "other keys of other kinds", item({"d": 5, "???": 5, "v": 5, "I": HERD}))
+    for form, x in list(every_text(HERD.encode()))[1:]:
+        vector("block", "I in " + form, item({"I": x}), BLOCK)
+    for name, text in [
+        ("bucket of 64", ULID + ":" + "b" * 64 + "/o"),
+        ("bucket of 0", ULID + ":/o"),
+        ("object of 0", ULID + ":b/"),
+        ("no slash", ULID + ":b"),
+        ("no colon", ULID + "b/o"),
+        ("a small letter", HERD.replace("1", "a")),
+        ("no text at all", ""),
+    ]:
+        vector("block", "I with " + name, item({"I": text}), 18)
+    vector("block", "I with slashes in the object", item({"I": HERD + "/a/"}))
+    vector("block", "I with object of 1024", item({"I": ULID + ":b/" + "o" * 1024}))
+    vector("block", "I with object of 1025", item({"I": ULID + ":b/" + "o" * 1025}), 18)
+    text = ULID.encode() + b":\xff/\xfe"
+    vector("block", "I with bytes that are no UTF-8", item({"I": sized(0xD9, 1, 30, text)}))
+    for name, first, last, wanted in [
+        ("text last", map, HERD, None),
+        ("map last", "x", map, None),
+        ("wrong last", HERD, 5, 17),
+        ("broken last", HERD, "x", 18),
+    ]:
+        vector("block", "repeated I, " + name, pairs(("I", first), ("I", last)), wanted)
+
+
+def versions():
+    map = {"b": "herd", "o": "k", "v": ULID}
+    parts("version", map)
+    identifier_maps("version", pairs)
+    vector("version", "d false", item({**map, "d": False}), TOLD + " d no")
+    vector("version", "d true", item({**map, "d": True}), TOLD + " d yes")
+    wrong("version", "d", lambda x: item({**map, "d": x}), ["false"], 17)
+    again = [("d", NIL), *map.items(), ("d", True)]
+    vector("version", "repeated d, wrong first", pairs(*again), TOLD + " d yes")
+    again = [("d", True), *map.items(), ("d", NIL)]
+    vector("version", "repeated d, wrong last", pairs(*again), 17)
+    vector("version", "repeated d", pairs(*map.items(), ("d", True), ("d", False)))
+    vector("version", "bad ULID and d, 17 before 18", item({**map, "v": "x", "d": 1}), 17)
+    vector("version", "I and ??? are passed over", item({"I": 5, "???": NIL, **map}))
+    vector("version", "identifier under I alone", item({"I": map}), 17)
+    acl, crypt = {"t": 0, "i": "u", "p": 15}, {"x": 2, "k": b"\x00\x01", "e": ""}
+    clone = {"p": "tape", "l": b"\x80", "f": 0, "B": 10000000, "s": 36}
+    full = {"w": "owner", "A": [acl], "l": 36, "e": "etag", "N": False, "C": crypt, "p": [clone]}
+    full.update({"s": {"v": 1, "b": 2}, "m": {"d": 3}, "h": True, "D": b"data"})
+    vector("version", "every key of 001", item({**map, **full, "d": True}), TOLD + " d yes")
+
+
+def deletes():
+    map = {"b": "herd", "o": "k", "v": ULID}
+    whole = {**map, "???": OTHER}
+    parts("delete", whole)
+    identifier_maps("delete", lambda *given: pairs(("???", OTHER), *given))
+    vector("delete", "in the writer's order", item(whole), TOLD + " by " + OTHER)
+    vector("delete", "in reverse", item(dict(reversed(whole.items()))), TOLD + " by " + OTHER)
+    vector("delete", "delete identifier of itself", item({**map, "???": ULID}))
+    vector("delete", "no delete identifier", item(map), 17)
+    near = {"??": OTHER, "????": OTHER}
+    vector("delete", "no delete identifier but near ones", item({**map, **near}), 17)
+    wrong("delete", "???", lambda x: item({**map, "???": x}), ["text"], 17)
+    for name, ulid in ULIDS:
+        vector("delete", "??? " + name, item({**map, "???": ulid}), 18)
+    vector("delete", "??? is composite", item({**map, "???": HERD}), 18)
+    broken = {**map, "b": "/"}
+    vector("delete", "bucket broken, no ???, 17 before 18", item(broken), 17)
+    vector("delete", "bucket broken, ??? no text, 17 before 18", item({**broken, "???": 1}), 17)
+    vector("delete", "bucket and ??? broken", item({**broken, "???": "x"}), 18)
+    vector("delete", "d and I are passed over", item({**whole, "d": 5, "I": NIL}))
+    vector("delete", "repeated ???, wrong first", pairs(("???", 5), *whole.items()))
+    vector("delete", "repeated ???, wrong last", pairs(*whole.items(), ("???", 5)), 17)
+    vector("delete", "repeated ???, broken last", pairs(*whole.items(), ("???", "")), 18)
+
+
+BK, VR, VD = b"bk", b"vr", b"vd"
+
+
+def records():
+    map = {"b": "herd", "o": "k", "v": ULID}
+    block, version, delete = item({"I": HERD}), item(map), item({**map, "???": OTHER})
+
+    def read(name, tag, value, wanted=None):
+        vector("record", name, tag + bytes(value), wanted)
+
+    read("block without data", BK, item({"e": block}))
+    read("block with empty data", BK, item({"s": [{"l": 0}], "e": block}))
+    read("version with a secondary part", VR, item({"e": version, "s": [{"l": 2}]}) + b"ab")
+    read("delete marker", VR, item({"e": item({**map, "d": True})}))
+    read("version delete", VD, item({"e": delete}))
+    coded = [{"l": 0, "c": 1, "z": 1}]
+    read("secondary part compressed and encrypted", BK, item({"s": coded, "e": block}))
+    deep = item({"I": HERD, "x": lists(15)})
+    read("header and part of depth 16", BK, item({"x": lists(15), "e": deep}))
+    read("v, c of 0, wide", BK, item({"v": sized(0xCF, 8, 0), "c": sized(0xD3, 8, 0), "e": block}))
+    for tag in (BK, VR, VD, b"C!"):
+        name = tag.decode()
+        read("empty, " + name, tag, b"", 9)
+        read("C1, " + name, tag, b"\xc1", 9)
+        read("depth 17, " + name, tag, lists(17), 10)
+        read("no header, " + name, tag, b"\x80", 11)
+        read("value of case B, " + name, tag, b"data data data", 11)
+        read("left over, " + name, tag, item({"e": b"", "v": 1, "c": 1}) + b"\x00", 12)
+    for tag in (b"C!", b"ol", b"BK", b"kb", b"rv", b"\x00\x00", b"\xff\xff"):
+        read("tag " + tag.hex(), tag, item({"e": block}), 13)
+    read("13 before 14 and 15", b"C!", item({"e": b"", "v": 1, "c": 1, "z": 1}), 13)
+    for tag in (BK, VR, VD):
+        name = tag.decode()
+        read("v 1, " + name, tag, item({"e": block, "v": 1}), 14)
+        read("v 2^64-1, " + name, tag, item({"e": block, "v": 2**64 - 1}), 14)
+        read("14 before 15, " + name, tag, item({"e": b"", "v": 1, "c": 1}), 14)
+        read("c 1, " + name, tag, item({"e": block, "c": 1}), 15)
+        read("z nil, " + name, tag, item({"e": block, "z": NIL}), 15)
+        read("z false, c 0, " + name, tag, item({"e": block, "z": False, "c": 0}), 15)
+        read("15 before 16, " + name, tag, item({"e": b"", "z": 1}), 15)
+        read("e empty, " + name, tag, item({"e": b""}), 16)
+        read("e with a byte left over, " + name, tag, item({"e": delete + b"\x00"}), 16)
+        read("e of depth 17, " + name, tag, item({"e": bytes(lists(17))}), 16)
+        read("e of depth 16, " + name, tag, item({"e": bytes(lists(16))}), 17)
+        read("e empty map, " + name, tag, item({"e": b"\x80"}), 17)
+    read("a version's part in a block", BK, item({"e": version}), 17)
+    read("a block's part in a version", VR, item({"e": block}), 17)
+    read("a version's part in a delete", VD, item({"e": version}), 17)
+    read("a delete's part in a version", VR, item({"e": delete}))
+    read("no identifier, block", BK, item({"e": item({"I": "x"})}), 18)
+    read("no bucket, version", VR, item({"e": item({**map, "b": ""})}), 18)
+    read("no delete ULID, delete", VD, item({"e": item({**map, "???": ""})}), 18)
+    read("e twice", VR, pairs(("e", block), ("e", version)))
+    read("text over the part", BK, item({"e": block, "x": HERD}))
+
+
+def places():
+    map = {"b": "b", "o": "o", "v": ULID}
+    version = record(VR, item({"e": item(map)}))
+    delete = record(VD, item({"e": item({**map, "???": OTHER})}))
+    second, third = len(version), len(version) + len(delete)
+    b = record(b"C!", b"data data data")
+    printed_b = "89544C560D0A1A0A 000000000000000E E33DB5F49F8ECB36 00 4321 08 0000 BB14"
+    assert xxh64(b"") == 0xEF46DB3751D8E999 and b[:32] == bytes.fromhex(printed_b)
+    at("A, empty pack", 0, b"", 20)
+    at("B", 0, b, 11)
+    at("C", 0, b[:-1], "7 at 0")
+    at("D", 0, b[:31], "2 at 0")
+    at("E", 46, b + b"\x00", "2 at 46")
+    at("E, at 0", 0, b + b"\x00", 11)
+    for name, i, byte, number in [
+        ("F", 0, 0x88, 3),
+        ("G", 24, 1, 4),
+        ("H", 27, 7, 5),
+        ("I", 31, 0x15, 6),
+        ("J", 45, 0x62, 8),
+    ]:
+        damaged = b[:i] + bytes([byte]) + b[i + 1 :]
+        at(name, 0, damaged, "%d at 0" % number)
+        at(name + " behind a version", second, version + damaged, "%d at %d" % (number, second))
+    pack = version + delete + b
+    at("a version", 0, pack)
+    at("a version delete", second, pack)
+    at("B in third place", third, pack, 11)
+    at("last byte", len(pack) - 1, pack, "2 at %d" % (len(pack) - 1))
+    at("31 bytes", len(pack) - 31, pack, "2 at %d" % (len(pack) - 31))
+    at("32 bytes, no record", len(pack) - 32, pack, "3 at %d" % (len(pack) - 32))
+    at("inside a header", 1, pack, "3 at 1")
+    for place in (len(pack), len(pack) + 1, 2**32, 2**63, 2**64 - 1):
+        at("place %d of %d" % (place, len(pack)), place, pack, 20)
+    for length in (len(delete) + 1, 2**32, 2**64 - 32, 2**64 - 1):
+        s = header(VR, length, 0) + delete
+        at("length %d of %d" % (length, len(delete)), 0, s, "7 at 0")
+    at("a pack cut behind is no fault of the first", 0, version + b"\x89")
+    value = version[32:]
+    at("bytes 28 and 29 set", 0, header(VR, len(value), xxh64(value), spare=0xFFFF) + value)
+    at("3 before 4 to 8", 0, b"\x00" * 33, "3 at 0")
+    at("4 before 5", 0, header(VR, 0, 0, version=1, hash_type=0), "4 at 0")
+    at("5 before 7", 0, header(VR, 9, 0, hash_type=0), "5 at 0")
+    at("7 before 8", 0, header(VR, 1, 0), "7 at 0")
+    at("8 before 9", 0, header(VR, 0, 0), "8 at 0")
+    at("9, empty value", 0, record(VR, b""), 9)
+    at("10", 0, record(VR, lists(17)), 10)
+    at("12", 0, record(VR, item({"e": b""}) + b"a"), 12)
+    at("13", 0, record(b"ol", item({"e": b""})), 13)
+    at("14", 0, record(VR, item({"e": b"", "v": 1})), 14)
+    at("15", 0, record(VR, item({"e": b"", "z": 1})), 15)
+    at("16 behind a version", second, version + record(VR, item({"e": b""})), 16)
+    at("17 behind a version", second, version + record(VR, item({"e": b"\x80"})), 17)
+    at("18 behind a version", second, version + record(BK, item({"e": item({"I": ""})})), 18)
+    outer = record(BK, item({"s": [{"l": len(version)}], "e": item({"I": HERD})}) + version)
+    at("a record in a block's data", len(outer) - len(version), outer)
+    at("the block around it", 0, outer)
+
+
+def main():
+    for section in [
+        herd_block,
+        document_001,
+        identifiers,
+        values_whole,
+        values_wrong,
+        values_parts,
+        values_widths,
+        values_keys,
+        blocks,
+        versions,
+        deletes,
+        records,
+        places,
+    ]:
+        section()
+    size = sum(map(len, inputs))
+    assert size <= BUFFER, "%d bytes are more than the program reads" % size
+    for name, lines in [("stdin", inputs), ("stdout", outputs)]:
+        path, made = os.path.join(CRATE, name), "".join(lines)
+        if sys.argv[1:] != ["--check"]:
+            with open(path, "w") as file:
+                file.write(made)
+        else:
+            with open(path) as file:
+                if file.read() != made:
+                    sys.exit("record_vectors: crates/record_vectors/%s is not what is made" % name)
+    print("record_vectors: %d vectors are as stored" % len(inputs))
+
+
+main()
