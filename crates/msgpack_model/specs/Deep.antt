@@ -1,8 +1,11 @@
 -- Too deep, both ways: the definition says so exactly where the relation does.
 use Prim.Native.Nat.{ℕ, zero, suc, _+_, _-_, _≤_, _<_}
+use mathlib.Core.Bool.{Bool, true, false}
 use mathlib.Core.List.{List, [], _++_, append-assoc}
 use mathlib.Core.Path.{_≡_, refl, sym, ap, _∙_}
 use native.Mathlib.Omega.{arith}
+use borrow.Author.Tests.{leb-true, leb-false}
+use lib.Dec.{leb}
 use lib.ListN.{length, take, drop, take-append-drop}
 use lib.Seq.{drop-append-seam}
 use Rattle.endian.specs.Bytes.{AllBytes, drop-bytes}
@@ -10,12 +13,12 @@ use Rattle.msgpack.specs.Formats.{arrayKind, mapKind}
 use Rattle.msgpack.specs.Items.{Head, Passage, whole, cut, tooDeep, head, headOf, itemsOf, andThen, passItems, passItem}
 use Rattle.msgpack.specs.HeadLaws.{absurd-numbers}
 use Rattle.msgpack.specs.PassingLaws.{beyond-deep, head-deep, too-deep, within-container}
-use Rattle.msgpack_model.specs.Values.{Values, no-values, value, countValues, valuesDepth}
-use Rattle.msgpack_model.specs.Encoding.{EncodesValues, none, next, Opens, opens-array, opens-map, TooDeep, here, inside}
+use Rattle.msgpack_model.specs.Values.{Value, Values, no-values, value, Pairs, pair, countValues, countPairs, depth, valuesDepth, pairsDepth}
+use Rattle.msgpack_model.specs.Encoding.{Encodes, scalar, array, map, EncodesValues, none, next, no-pair, next-pair, Opens, opens-array, opens-map, TooDeep, here, inside}
 use Rattle.msgpack_model.specs.Heads.{array-begins, map-begins}
 use Rattle.msgpack_model.specs.Complete.{complete}
 use Rattle.msgpack_model.specs.Rows.{Front, no-item, scalar-item, array-item, map-item, front}
-use Rattle.msgpack_model.specs.Sound.{EncodesWithin, sound}
+use Rattle.msgpack_model.specs.Sound.{EncodesWithin, scalar-depth, sound}
 
 -- ---- where the relation holds
 
@@ -113,6 +116,57 @@ deep-means zero s bytes p =
 deep-means (suc a) s bytes p =
     let d = head-deep _ (headOf s) s p in
     deep-inside a (deep-means a) s (headOf s .size) (itemsOf (headOf s .kind) (headOf s .count)) bytes (opens-front s (headOf s) (front s bytes) (d .0)) (d .1)
+
+-- ---- every encoding of a value that is deeper than the allowance
+
+abbrev Deep : Value → List ℕ → Type 0
+Deep v e = (a : ℕ) → a < depth v → (rest : List ℕ) → passItem a (e ++ rest) ≡ tooDeep
+
+abbrev ValuesDeep : Values → List ℕ → Type 0
+ValuesDeep vs e = (a : ℕ) → a < valuesDepth vs → (rest : List ℕ) → passItems (passItem a) (countValues vs) (e ++ rest) ≡ tooDeep
+
+abbrev PairsDeep : Pairs → List ℕ → Type 0
+PairsDeep ps e = (a : ℕ) → a < pairsDepth ps → (rest : List ℕ) → passItems (passItem a) (countPairs ps + countPairs ps) (e ++ rest) ≡ tooDeep
+
+container-deep : {count inner : ℕ} {h : List ℕ} → Opens count h → (e : List ℕ) → ((a : ℕ) → a < inner → (rest : List ℕ) → passItems (passItem a) count (e ++ rest) ≡ tooDeep)
+    → (a : ℕ) → a < suc inner → (rest : List ℕ) → passItem a ((h ++ e) ++ rest) ≡ tooDeep
+container-deep {h = h} x e p zero l rest = rw append-assoc (deep (here x (e ++ rest)))
+container-deep {h = h} x e p (suc a) l rest =
+    let o = opened x in
+    rw append-assoc
+    (sym (within-container a (h ++ (e ++ rest)) (head (o .kind) (length h) (o .number)) (sym (o .begun (e ++ rest))) (o .is-container))
+    ∙ rw (drop-append-seam h (e ++ rest), o .items, p a (omega arith) rest))
+
+-- an item, and those after it: one of them is too deep
+item-deep : {v : Value} {e : List ℕ} → Encodes v e → Deep v e → (a count : ℕ) (t : List ℕ) → (depth v ≤ a → passItems (passItem a) count t ≡ tooDeep) → passItems (passItem a) (suc count) (e ++ t) ≡ tooDeep
+unfolding passItems
+item-deep {v = v} {e = e} x p a count t q = by (leb (depth v) a) refl
+  where
+    by : (b : Bool) → leb (depth v) a ≡ b → passItems (passItem a) (suc count) (e ++ t) ≡ tooDeep
+    by true l = rw (complete x a (leb-true _ _ l) t, drop-append-seam e t, q (leb-true _ _ l))
+    by false l = rw (p a (leb-false _ _ l) t)
+
+next-deep : {v : Value} {e : List ℕ} (vs : Values) (f : List ℕ) → Encodes v e → Deep v e → ValuesDeep vs f → ValuesDeep (value v vs) (e ++ f)
+next-deep vs f x p q a l rest = rw append-assoc (item-deep x p a (countValues vs) (f ++ rest) λ d. q a (omega arith) rest)
+
+pair-deep : {k v : Value} {e f : List ℕ} (ps : Pairs) (g : List ℕ) → Encodes k e → Deep k e → Encodes v f → Deep v f → PairsDeep ps g → PairsDeep (pair k v ps) (e ++ (f ++ g))
+pair-deep {e = e} {f = f} ps g x p y q r a l rest =
+    let twice : suc (countPairs ps) + suc (countPairs ps) ≡ suc (suc (countPairs ps + countPairs ps)) = omega arith in
+    let joined : (e ++ (f ++ g)) ++ rest ≡ e ++ (f ++ (g ++ rest)) = simp append-assoc in
+    rw (twice, joined)
+    (item-deep x p a (suc (countPairs ps + countPairs ps)) (f ++ (g ++ rest)) λ d. item-deep y q a (countPairs ps + countPairs ps) (g ++ rest) λ c. r a (omega arith) rest)
+
+-- the counterpart of `complete`
+pub deeper : {v : Value} {e : List ℕ} → Encodes v e → (a : ℕ) → a < depth v → (rest : List ℕ) → passItem a (e ++ rest) ≡ tooDeep
+deeper x = elim x as (λ v e y. Deep v e) (λ vs e y. ValuesDeep vs e) (λ ps e y. PairsDeep ps e) [
+  | scalar s ↦ λ a l rest. absurd (omega (arith, scalar-depth s))
+  | array {e = e} x (es → p) ↦ container-deep (opens-array x) e p
+  | map {e = e} x (es → p) ↦ container-deep (opens-map x) e p
+  | none ↦ λ a l rest. absurd (omega arith)
+  | next {vs = vs} {f = f} (y → p) (ys → q) ↦ next-deep vs f y p q
+  | no-pair ↦ λ a l rest. absurd (omega arith)
+  | next-pair {ps = ps} {g = g} (y → p) (z → q) (ys → r) ↦ pair-deep ps g y p z q r
+]
 
 -- what follows plays no part
 pub deep-more : {a : ℕ} {s : List ℕ} → TooDeep a s → (t : List ℕ) → TooDeep a (s ++ t)

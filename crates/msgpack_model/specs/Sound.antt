@@ -88,7 +88,7 @@ module _ (a : ℕ) (item : List ℕ → Passage) (one : ItemsSound a item) where
 
 -- ---- one item, by its head
 
-scalar-depth : {v : Value} {e : List ℕ} → Scalar v e → depth v ≡ 0
+pub scalar-depth : {v : Value} {e : List ℕ} → Scalar v e → depth v ≡ 0
 unfolding scalarOf
 scalar-depth = of-scalar depth 0 λ b body. agree (λ k. depth (scalarOf k b body)) (λ k. 0) 8 refl
 
