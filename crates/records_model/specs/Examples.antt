@@ -1,0 +1,245 @@
+-- A block as two sites may write it, to which the theorem applies, with both answers computed; and a key that repeats, where the order does matter.
+use Prim.Native.Nat.{ℕ, _+_, _<_}
+use mathlib.Core.Bool.{Bool, true, false, _&&_, true≢false}
+use mathlib.Core.List.{List, [], _∷_, _++_}
+use mathlib.Core.Path.{_≡_, refl}
+use native.Mathlib.Omega.{arith}
+use borrow.Author.Tests.{leb-true, ltb-true}
+use lib.Dec.{leb, ltb}
+use lib.ListN.{length}
+use Rattle.endian.specs.Bytes.{AllBytes, none-bytes, cons-bytes, sameBytes}
+use Rattle.endian.specs.Numbers.{little, big, littleBytes, bigBytes}
+use Rattle.endian.specs.Places.{holds, numberAt}
+use Rattle.tlv.specs.Found.{lowest}
+use Rattle.msgpack.specs.Formats.{formats, formatOf}
+use Rattle.msgpack.specs.Items.{headOf, passItems, passHead, passItem}
+use Rattle.msgpack.specs.Readers.{isWhole, plus, integerOf, contentAt, readInteger, countAt}
+use Rattle.msgpack.specs.Lookup.{keyAt, lastWhere, lastValue, under}
+use Rattle.msgpack_model.specs.Values.{Value, Integer, Text, Binary, Array, Map, no-values, value, Pairs, no-pairs, pair}
+use Rattle.msgpack_model.specs.Encoding.{fixstr, str8, bin8, bin16, fixarray, fixmap, map16, positive-fixint, uint16, text, binary, Encodes, scalar, array, map, none, next, no-pair, next-pair}
+use Rattle.msgpack_model.specs.Unique.{one-value}
+use Rattle.msgpack_model.specs.Lookup.{timesKey}
+use Rattle.msgpack_model.specs.Writers.{number-written}
+use Rattle.value.specs.Header.{primaryKey, secondaryKey, lengthKey, compressionKey}
+use Rattle.value.specs.Fields.{readNatural, naturalUnder, bytesUnder, isThere}
+use Rattle.value.specs.Header as bytes
+use Rattle.value.specs.Reading.{reading}
+use Rattle.identifier.specs.Texts.{member, all, both}
+use Rattle.identifier.specs.Ulid.{alphabet, isCharacter, isUlid}
+use Rattle.identifier.specs.Identity.{sized, isBucket, isObject, identity, isValid, identityOf}
+use Rattle.primary.specs.Parts.{Answer, refused, read, bucketKey, objectKey, ulidKey, identifierKey, fills, textAt, textUnder, textsUnder, shapeAt, shapeUnder}
+use Rattle.primary.specs.Parts as part
+use Rattle.records.specs.Record.{blockTag, isKnown, block, contents, toldRows, readRecord, isRead}
+use Rattle.records_model.specs.Alike.{Alike, same, maps, arrays, embedded, next as next-alike, no-values-alike, next-pair as next-pair-alike, no-pairs-alike, swapped, and-further}
+use Rattle.records_model.specs.Header.{coding, Telling, tellingAlone}
+use Rattle.records_model.specs.Record.{RecordHeld, recordIn}
+use Rattle.records_model.specs.NoRepeats.{OnceEach, NoRepeat, headerKeys, secondaryKeys, blockKeys, identityKeys, BlockNoRepeat, NoRepeats}
+use Rattle.records_model.specs.SameAnswer.{SameAnswer, same-refusal, both-read, SameRecord}
+use Rattle.records_model.specs.TwoSites.{records-alike}
+
+-- ---- texts in two widths
+
+abbrev narrow : List ℕ → List ℕ
+narrow t = (0xa0 + length t) ∷ t
+
+abbrev wide : List ℕ → List ℕ
+wide t = 0xd9 ∷ bigBytes 1 (length t) ++ t
+
+abbrev ulid : List ℕ
+ulid = 0x30 ∷ 0x30 ∷ 0x30 ∷ 0x30 ∷ 0x30 ∷ 0x30 ∷ 0x30 ∷ 0x30 ∷ 0x30 ∷ 0x30 ∷ 0x30 ∷ 0x30 ∷ 0x30 ∷ 0x30 ∷ 0x30 ∷ 0x30 ∷ 0x30 ∷ 0x30 ∷ 0x30 ∷ 0x30 ∷ 0x30 ∷ 0x30 ∷ 0x30 ∷ 0x30 ∷ 0x30 ∷ 0x31 ∷ []
+
+abbrev herd : List ℕ
+herd = 0x68 ∷ 0x65 ∷ 0x72 ∷ 0x64 ∷ []
+
+abbrev scan : List ℕ
+scan = 0x73 ∷ []
+
+abbrev secondary : List ℕ
+secondary = 0x61 ∷ 0x62 ∷ []
+
+abbrev limit : ℕ
+limit = 4294967295
+
+-- ---- the primary part: {I: {b, o, v}} and {I: {o, b, v}}
+
+abbrev hereIdentity : Pairs
+hereIdentity = pair (Text bucketKey) (Text herd) (pair (Text objectKey) (Text scan) (pair (Text ulidKey) (Text ulid) no-pairs))
+
+abbrev herePart : Value
+herePart = Map (pair (Text identifierKey) (Map hereIdentity) no-pairs)
+
+abbrev therePart : Value
+therePart = Map (pair (Text identifierKey) (Map (pair (Text objectKey) (Text scan) (pair (Text bucketKey) (Text herd) (pair (Text ulidKey) (Text ulid) no-pairs)))) no-pairs)
+
+abbrev herePartBytes : List ℕ
+herePartBytes = 0x81 ∷ narrow identifierKey ++ 0x83 ∷ narrow bucketKey ++ narrow herd ++ narrow objectKey ++ narrow scan ++ narrow ulidKey ++ narrow ulid
+
+abbrev therePartBytes : List ℕ
+therePartBytes = 0x81 ∷ narrow identifierKey ++ 0xde ∷ 0 ∷ 3 ∷ wide objectKey ++ narrow scan ++ narrow bucketKey ++ wide herd ++ narrow ulidKey ++ narrow ulid
+
+-- ---- the header: {s: [{l, c}], e} and {e, s: [{c, l}]}
+
+abbrev hereSecondary : Pairs
+hereSecondary = pair (Text lengthKey) (Integer (plus 2)) (pair (Text compressionKey) (Integer (plus 7)) no-pairs)
+
+abbrev hereHeader : Value
+hereHeader = Map (pair (Text secondaryKey) (Array (value (Map hereSecondary) no-values)) (pair (Text primaryKey) (Binary herePartBytes) no-pairs))
+
+abbrev thereHeader : Value
+thereHeader =
+    Map (pair (Text primaryKey) (Binary therePartBytes)
+    (pair (Text secondaryKey) (Array (value (Map (pair (Text compressionKey) (Integer (plus 7)) (pair (Text lengthKey) (Integer (plus 2)) no-pairs))) no-values)) no-pairs))
+
+abbrev hereBytes : List ℕ
+hereBytes = 0x82 ∷ narrow secondaryKey ++ 0x91 ∷ 0x82 ∷ narrow lengthKey ++ 2 ∷ narrow compressionKey ++ 7 ∷ narrow primaryKey ++ 0xc4 ∷ length herePartBytes ∷ herePartBytes
+
+abbrev thereBytes : List ℕ
+thereBytes = 0x82 ∷ wide primaryKey ++ 0xc5 ∷ 0 ∷ length therePartBytes ∷ therePartBytes ++ narrow secondaryKey ++ 0x91 ∷ 0x82 ∷ narrow compressionKey ++ 7 ∷ narrow lengthKey ++ 0xcd ∷ 0 ∷ 2 ∷ []
+
+-- ---- a header with `c` twice: {e, c: 1, c: 0} and {e, c: 0, c: 1}
+
+abbrev twice : ℕ → ℕ → Value
+twice first last = Map (pair (Text primaryKey) (Binary herePartBytes) (pair (Text compressionKey) (Integer (plus first)) (pair (Text compressionKey) (Integer (plus last)) no-pairs)))
+
+abbrev twiceBytes : ℕ → ℕ → List ℕ
+twiceBytes first last = 0x83 ∷ narrow primaryKey ++ 0xc4 ∷ length herePartBytes ∷ herePartBytes ++ narrow compressionKey ++ first ∷ narrow compressionKey ++ last ∷ []
+
+-- ---- what is read
+
+abbrev answerTo : List ℕ → Answer RecordHeld
+answerTo s = recordIn s (readRecord limit blockTag s)
+
+abbrev answer : List ℕ → List ℕ → Telling → Answer RecordHeld
+answer primary secondary told =
+    read (record {
+      held = record { primary = primary; secondary = secondary; told = told };
+      contents = record { identifier = identity ulid herd scan; kind = block };
+    })
+
+abbrev withSecondary : Telling
+withSecondary = record { version = 0; primary = coding 0 false; present = true; length = 2; secondary = coding 7 false }
+
+pub record Computed : Type 0 where
+  pub here : answerTo (hereBytes ++ secondary) ≡ answer herePartBytes secondary withSecondary
+  pub there : answerTo (thereBytes ++ secondary) ≡ answer therePartBytes secondary withSecondary
+  pub last-is-0 : answerTo (twiceBytes 1 0) ≡ answer herePartBytes [] (tellingAlone 0 0 false)
+  pub last-is-1 : answerTo (twiceBytes 0 1) ≡ refused 15
+
+pub computed : Computed
+unfolding readRecord reading passItem passHead headOf numberAt holds formatOf passItems big little formats bytes.header bytes.alone bytes.withList bytes.withMap bytesUnder under lastValue lastWhere keyAt sameBytes contentAt isWhole naturalUnder readNatural readInteger integerOf isThere countAt lowest toldRows isKnown contents part.block fills shapeUnder shapeAt textAt textsUnder textUnder identityOf isValid isUlid isCharacter alphabet isBucket isObject sized member all bigBytes littleBytes
+computed = record { here = refl; there = refl; last-is-0 = refl; last-is-1 = refl }
+
+-- ---- these are encodings
+
+isShort : ℕ → List ℕ → Bool
+isShort most t = ltb (length t) most && all (λ b. ltb b 256) t
+
+all-bytes : (t : List ℕ) → all (λ b. ltb b 256) t ≡ true → AllBytes t
+unfolding all
+all-bytes [] e = none-bytes
+all-bytes (b ∷ t) e = let p = both (ltb b 256) (all (λ b. ltb b 256) t) e in cons-bytes (ltb-true b 256 (p .0)) (all-bytes t (p .1))
+
+narrow-text : (t : List ℕ) → isShort 32 t ≡ true → Encodes (Text t) (narrow t)
+unfolding isShort
+narrow-text t e = let p = both (ltb (length t) 32) _ e in scalar (text (fixstr (length t) (ltb-true _ _ (p .0))) (all-bytes t (p .1)))
+
+wide-text : (t : List ℕ) → isShort 256 t ≡ true → Encodes (Text t) (wide t)
+unfolding isShort
+wide-text t e = let p = both (ltb (length t) 256) _ e in scalar (text (str8 (number-written 1 (length t) (ltb-true _ _ (p .0)))) (all-bytes t (p .1)))
+
+here-part : Encodes herePart herePartBytes
+unfolding isShort all
+here-part =
+    map (fixmap 1 (omega arith)) (next-pair (narrow-text identifierKey refl)
+    (map (fixmap 3 (omega arith)) (next-pair (narrow-text bucketKey refl) (narrow-text herd refl)
+    (next-pair (narrow-text objectKey refl) (narrow-text scan refl)
+    (next-pair (narrow-text ulidKey refl) (narrow-text ulid refl) no-pair))))
+    no-pair)
+
+there-part : Encodes therePart therePartBytes
+unfolding isShort all bigBytes littleBytes
+there-part =
+    map (fixmap 1 (omega arith)) (next-pair (narrow-text identifierKey refl)
+    (map (map16 (number-written 2 3 (omega arith))) (next-pair (wide-text objectKey refl) (narrow-text scan refl)
+    (next-pair (narrow-text bucketKey refl) (wide-text herd refl)
+    (next-pair (narrow-text ulidKey refl) (narrow-text ulid refl) no-pair))))
+    no-pair)
+
+here-header : Encodes hereHeader hereBytes
+unfolding isShort all bigBytes littleBytes
+here-header =
+    map (fixmap 2 (omega arith)) (next-pair (narrow-text secondaryKey refl)
+    (array (fixarray 1 (omega arith)) (next
+    (map (fixmap 2 (omega arith)) (next-pair (narrow-text lengthKey refl) (scalar (positive-fixint 2 (omega arith)))
+    (next-pair (narrow-text compressionKey refl) (scalar (positive-fixint 7 (omega arith))) no-pair))) none))
+    (next-pair (narrow-text primaryKey refl) (scalar (binary (bin8 (number-written 1 (length herePartBytes) (omega arith))) (all-bytes herePartBytes refl))) no-pair))
+
+there-header : Encodes thereHeader thereBytes
+unfolding isShort all bigBytes littleBytes
+there-header =
+    map (fixmap 2 (omega arith)) (next-pair (wide-text primaryKey refl) (scalar (binary (bin16 (number-written 2 (length therePartBytes) (omega arith))) (all-bytes therePartBytes refl)))
+    (next-pair (narrow-text secondaryKey refl)
+    (array (fixarray 1 (omega arith)) (next
+    (map (fixmap 2 (omega arith)) (next-pair (narrow-text compressionKey refl) (scalar (positive-fixint 7 (omega arith)))
+    (next-pair (narrow-text lengthKey refl) (scalar (uint16 (number-written 2 2 (omega arith)))) no-pair))) none))
+    no-pair))
+
+pub twice-header : (first last : ℕ) → first < 128 → last < 128 → Encodes (twice first last) (twiceBytes first last)
+unfolding isShort all bigBytes littleBytes
+twice-header first last h l =
+    map (fixmap 3 (omega arith)) (next-pair (narrow-text primaryKey refl) (scalar (binary (bin8 (number-written 1 (length herePartBytes) (omega arith))) (all-bytes herePartBytes refl)))
+    (next-pair (narrow-text compressionKey refl) (scalar (positive-fixint first h))
+    (next-pair (narrow-text compressionKey refl) (scalar (positive-fixint last l)) no-pair)))
+
+-- ---- the theorem applies to the two sites
+
+sites-alike : Alike hereHeader thereHeader
+sites-alike =
+    maps (and-further (swapped _ _ _ _ no-pairs)
+    (next-pair-alike (same _) (embedded here-part there-part (maps (next-pair-alike (same _) (maps (swapped _ _ _ _ _)) no-pairs-alike)))
+    (next-pair-alike (same _) (arrays (next-alike (maps (swapped _ _ _ _ no-pairs)) no-values-alike)) no-pairs-alike)))
+
+-- the premise, tested
+onceEach : List (List ℕ) → Pairs → Bool
+onceEach [] ps = true
+onceEach (key ∷ keys) ps = leb (timesKey key ps) 1 && onceEach keys ps
+
+once-each : (keys : List (List ℕ)) (ps : Pairs) → onceEach keys ps ≡ true → OnceEach keys ps
+unfolding onceEach
+once-each [] ps e = tt
+once-each (key ∷ keys) ps e = let p = both (leb (timesKey key ps) 1) (onceEach keys ps) e in (leb-true _ _ (p .0), once-each keys ps (p .1))
+
+no-repeat : (keys : List (List ℕ)) (ps : Pairs) → onceEach keys ps ≡ true → (m : Value) → Map ps ≡ m → NoRepeat keys m
+no-repeat keys ps e m is = rw (← is) (record { once = λ qs i. let same : ps ≡ qs = cc in rw (← same) (once-each keys ps e) })
+
+part-no-repeat : BlockNoRepeat herePart
+unfolding onceEach sameBytes
+part-no-repeat = record { part = no-repeat blockKeys _ refl herePart refl; identifier = λ i q. no-repeat identityKeys hereIdentity refl i (cc) }
+
+no-repeats : NoRepeats blockTag hereHeader
+unfolding onceEach sameBytes
+no-repeats = record {
+  header = record { header = no-repeat headerKeys _ refl hereHeader refl; secondary = λ l s i j. no-repeat secondaryKeys hereSecondary refl s (cc) };
+  primary = λ e p i x.
+      let is : herePartBytes ≡ e = cc in
+      record {
+        block = λ t. rw (one-value (rw (← is) at x) here-part) part-no-repeat;
+        version = λ t. absurd (omega arith);
+        versionDelete = λ t. absurd (omega arith);
+      };
+}
+
+pub sites-read-alike : SameAnswer SameRecord (answerTo (hereBytes ++ secondary)) (answerTo (thereBytes ++ secondary))
+sites-read-alike = records-alike limit blockTag here-header there-header sites-alike no-repeats secondary
+
+-- ---- without the premise it does not hold
+
+pub twice-alike : Alike (twice 1 0) (twice 0 1)
+twice-alike = maps (next-pair-alike (same _) (same _) (swapped _ _ _ _ no-pairs))
+
+same-kind : {A : Type 0} {R : A → A → Type 0} {a b : Answer A} → SameAnswer R a b → isRead a ≡ isRead b
+same-kind (same-refusal n) = refl
+same-kind (both-read x) = refl
+
+pub order-matters : SameAnswer SameRecord (answerTo (twiceBytes 1 0)) (answerTo (twiceBytes 0 1)) → ⊥
+order-matters x = true≢false (rw (computed .last-is-0, computed .last-is-1) at (same-kind x))

@@ -1,0 +1,13 @@
+pub mod Alike
+pub mod Under
+pub mod Header
+pub mod HeaderReads
+pub mod Primary
+pub mod Record
+pub mod NoRepeats
+pub mod SameAnswer
+pub mod SameReading
+pub mod SameRecords
+pub mod TwoSites
+pub mod Written
+pub mod Examples
