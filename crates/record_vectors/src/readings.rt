@@ -97,22 +97,26 @@ fn record(s: &[u8]) {
     }
 }
 
+fn say_placed(pack: &[u8], r: Record, start: usize, len: usize) {
+    say_record(part(pack, start, len), r);
+    say(b" value ");
+    say_number(start);
+    say(b" ");
+    say_number(len);
+}
+
+fn say_refusal_at(number: u8, place: usize) {
+    say_refusal(number);
+    say(b" at ");
+    say_number(place);
+}
+
 fn at_place(pack: &[u8], place: usize) {
     match records::read_at(pack, place) {
-        AtPlace::Record { record, start, len } => {
-            say_record(part(pack, start, len), record);
-            say(b" value ");
-            say_number(start);
-            say(b" ");
-            say_number(len);
-        }
-        AtPlace::Outside => say(b"20"),
-        AtPlace::TooLong => say(b"1 at 0"),
-        AtPlace::Fault(f, at) => {
-            say_refusal(tlv::number(f));
-            say(b" at ");
-            say_number(at);
-        }
+        AtPlace::Record { record, start, len } => say_placed(pack, record, start, len),
+        AtPlace::Outside => say_refusal(20),
+        AtPlace::TooLong => say_refusal_at(1, 0),
+        AtPlace::Fault(f, at) => say_refusal_at(tlv::number(f), at),
         AtPlace::Refused(f) => say_refusal(records::number(f)),
     }
 }
@@ -125,22 +129,28 @@ fn at(s: &[u8]) {
     at_place(after(s, 7), place as usize);
 }
 
-pub(crate) fn run(kind: &[u8], bytes: &[u8]) {
-    if endian::same_bytes(kind, b"identifier") {
-        composite(bytes);
-    } else if endian::same_bytes(kind, b"value") {
-        header(bytes);
-    } else if endian::same_bytes(kind, b"block") {
+fn run_part(kind: &[u8], bytes: &[u8]) {
+    if endian::same_bytes(kind, b"block") {
         block(bytes);
     } else if endian::same_bytes(kind, b"version") {
         version(bytes);
     } else if endian::same_bytes(kind, b"delete") {
         version_delete(bytes);
+    } else {
+        say(b"no such kind");
+    }
+}
+
+pub(crate) fn run(kind: &[u8], bytes: &[u8]) {
+    if endian::same_bytes(kind, b"identifier") {
+        composite(bytes);
+    } else if endian::same_bytes(kind, b"value") {
+        header(bytes);
     } else if endian::same_bytes(kind, b"record") {
         record(bytes);
     } else if endian::same_bytes(kind, b"at") {
         at(bytes);
     } else {
-        say(b"no such kind");
+        run_part(kind, bytes);
     }
 }
