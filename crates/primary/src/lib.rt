@@ -16,11 +16,11 @@ use msgpack::Found;
 use msgpack::Passed;
 
 // Keys of an identifier's map.
-const BUCKET: [u8; 1] = *b"b";
+pub const BUCKET: [u8; 1] = *b"b";
 
-const OBJECT: [u8; 1] = *b"o";
+pub const OBJECT: [u8; 1] = *b"o";
 
-const ULID: [u8; 1] = *b"v";
+pub const ULID: [u8; 1] = *b"v";
 
 // Of a block.
 const IDENTIFIER: [u8; 1] = *b"I";
@@ -29,7 +29,7 @@ const IDENTIFIER: [u8; 1] = *b"I";
 const DELETED: [u8; 1] = *b"d";
 
 // Of a version delete: its own identifier. Provisional in document 001, which prints it so.
-const DELETE_ID: [u8; 3] = *b"???";
+pub const DELETE_ID: [u8; 3] = *b"???";
 
 // Refusals 16 to 18 of document 01.
 pub enum Fault {

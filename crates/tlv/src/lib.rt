@@ -72,7 +72,7 @@ impl RecordHeader {
 
     const HEADER_HASH: usize = 30;
 
-    const MAGIC: u64 = 0x89544C560D0A1A0A;
+    pub const MAGIC: u64 = 0x89544C560D0A1A0A;
 
     // The header at the front of a slice. Its tests come in the order of their numbers.
     pub fn read(s: &[u8]) -> HeaderRead

@@ -1,0 +1,46 @@
+-- The header, the primary part, the data.
+use Prim.Native.Nat.{ℕ, _+_, _≤_}
+use mathlib.Core.List.{List, _++_}
+use mathlib.Core.Path.{refl}
+use native.Mathlib.Omega.{arith}
+use borrow.Author.Needs.{needs}
+use lib.ListN.{length}
+use Rattle.identifier.specs.Identity.{Identity, identity}
+use Rattle.writer.specs.Values.{blockHeader, blockPart}
+use Rattle.writer.proofs.Fixed.{block-value}
+use Rattle.writer.proofs.Chains.{first-fits, next-fits, puts-both}
+use Rattle.writer.proofs.put_block_value.Statement.{statement}
+use Rattle.writer.proofs.put_block_value.Tie as tie
+
+abbrev of : tie.Start → Identity
+of s = identity (s .args .ulid .now) (s .args .bucket .now) (s .args .object .now)
+
+abbrev header : tie.Start → List ℕ
+header s = blockHeader (length (s .args .content .now)) (s .args .part)
+
+front-fits : (s : tie.Start) → s .args .at + length (header s ++ blockPart (of s)) ≤ length (s .args .out .now)
+front-fits s = first-fits (header s ++ blockPart (of s)) (s .args .content .now) (block-value (of s) _ _ (s .pre .1)) _ _ (s .pre .3)
+
+put-block-header-requires : tie.Need-put-block-header-requires
+put-block-header-requires c κs = (omega arith, first-fits (header (c .before .before .before .before .before .before)) (blockPart (of (c .before .before .before .before .before .before))) refl _ _ (front-fits (c .before .before .before .before .before .before)))
+
+put-block-part-requires : tie.Need-put-block-part-requires
+put-block-part-requires c κs = (c .before .before .before .before .before .before .before .before .before .before .pre .0, next-fits _ _ refl (c .before .before .before .put-block-header .ensures) (front-fits (c .before .before .before .before .before .before .before .before .before .before)))
+
+put-requires : tie.Need-put-requires
+put-requires c κs =
+    let front = puts-both _ _ refl (c .before .before .before .before .before .before .before .put-block-header .ensures) (c .before .before .before .put-block-part .ensures) (front-fits (c .before .before .before .before .before .before .before .before .before .before .before .before .before .before)) in
+    next-fits _ _ (block-value (of (c .before .before .before .before .before .before .before .before .before .before .before .before .before .before)) _ _ (c .before .before .before .before .before .before .before .before .before .before .before .before .before .before .pre .1)) front (c .before .before .before .before .before .before .before .before .before .before .before .before .before .before .pre .3)
+
+same-length : tie.Need-same-length
+same-length c = search needs
+
+returns : tie.Need-returns
+returns c =
+    let front = puts-both _ _ refl (c .before .before .before .before .before .before .before .before .before .before .put-block-header .ensures) (c .before .before .before .before .before .before .put-block-part .ensures) (front-fits (c .before .before .before .before .before .before .before .before .before .before .before .before .before .before .before .before .before)) in
+    puts-both _ _ (block-value (of (c .before .before .before .before .before .before .before .before .before .before .before .before .before .before .before .before .before)) _ _ (c .before .before .before .before .before .before .before .before .before .before .before .before .before .before .before .before .before .pre .1)) front (c .before .before .put .ensures) (c .before .before .before .before .before .before .before .before .before .before .before .before .before .before .before .before .before .pre .3)
+
+pub put-block-value-spec : {M : Type 1} → statement M
+put-block-value-spec =
+    tie.close
+    (tie.spec put-block-header-requires put-block-part-requires put-requires same-length returns)

@@ -1,0 +1,4 @@
+pub mod Values
+pub mod Putting
+pub mod Writing
+pub mod Limits

@@ -1,0 +1,57 @@
+-- The values that are written (document 01, "Writing"; docs/FORMAT.md, "What we write"), every head in its shortest form.
+use Prim.Native.Nat.{ℕ}
+use mathlib.Core.List.{List, _++_}
+use lib.ListN.{length}
+use Rattle.msgpack.specs.Writers.{textHead, binaryHead, unsignedInteger, arrayHead, mapHead}
+use Rattle.identifier.specs.Identity.{Identity}
+use Rattle.identifier.specs.Composite.{compositeText}
+use Rattle.value.specs.Header.{primaryKey, secondaryKey, lengthKey}
+use Rattle.primary.specs.Parts.{bucketKey, objectKey, ulidKey, identifierKey, deleteIdKey}
+
+-- ---- items, with their heads
+
+unfoldable pub textItem : List ℕ → List ℕ
+textItem t = textHead (length t) ++ t
+
+-- a key, and a text under it
+unfoldable pub pair : List ℕ → List ℕ → List ℕ
+pair key t = textItem key ++ textItem t
+
+-- ---- the value's header, up to its primary part of n bytes
+
+-- the last key, `e`
+unfoldable pub primaryHeader : ℕ → List ℕ
+primaryHeader n = textItem primaryKey ++ binaryHead n
+
+-- `s: [{l}]`
+unfoldable pub secondaryHeader : ℕ → List ℕ
+secondaryHeader l = textItem secondaryKey ++ arrayHead 1 ++ mapHead 1 ++ textItem lengthKey ++ unsignedInteger l
+
+-- of a block: `{s: [{l}], e}`
+unfoldable pub blockHeader : ℕ → ℕ → List ℕ
+blockHeader l n = mapHead 2 ++ secondaryHeader l ++ primaryHeader n
+
+-- of every other value: `{e}` alone
+unfoldable pub partHeader : ℕ → List ℕ
+partHeader n = mapHead 1 ++ primaryHeader n
+
+-- ---- a block: its primary part is `{I}`, and its data follows
+
+unfoldable pub blockPart : Identity → List ℕ
+blockPart i = mapHead 1 ++ pair identifierKey (compositeText i)
+
+unfoldable pub blockValue : Identity → List ℕ → List ℕ
+blockValue i d = blockHeader (length d) (length (blockPart i)) ++ blockPart i ++ d
+
+-- ---- any other value, from its primary part
+
+unfoldable pub partValue : List ℕ → List ℕ
+partValue p = partHeader (length p) ++ p
+
+-- `b`, `o`, `v`
+unfoldable pub identityPairs : Identity → List ℕ
+identityPairs i = pair bucketKey (i .bucket) ++ pair objectKey (i .object) ++ pair ulidKey (i .ulid)
+
+-- the primary part of a version delete that is made from an identifier and a delete ULID
+unfoldable pub deletePart : Identity → List ℕ → List ℕ
+deletePart i u = mapHead 4 ++ identityPairs i ++ pair deleteIdKey u

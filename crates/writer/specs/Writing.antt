@@ -1,0 +1,105 @@
+-- One record a call (document 01, "Writing"): what may be written, what a call answers, and what the lent buffer then holds.
+use Prim.Native.Nat.{ℕ, _+_}
+use mathlib.Core.Bool.{Bool, true, false, cond, _&&_}
+use mathlib.Core.List.{List}
+use mathlib.Core.Option.{Option, none, some}
+use mathlib.Core.Path.{_≡_}
+use lib.Dec.{leb}
+use lib.ListN.{length}
+use Rattle.endian.specs.Places.{overwritten}
+use Rattle.tlv.specs.Layout.{Record, layout}
+use Rattle.pack.specs.Reading.{packLimit}
+use Rattle.identifier.specs.Ulid.{isUlid}
+use Rattle.identifier.specs.Identity.{Identity, isValid}
+use Rattle.primary.specs.Parts as primary
+use Rattle.writer.specs.Values.{blockValue, partValue, deletePart}
+use Rattle.writer.specs.declared.Written.{Written}
+use Rattle.writer.specs.declared.Written.the-variants.{Count, Short, Inadmissible}
+
+-- ---- what a call is asked to write
+
+pub data Item : Type 0 where
+  block : Identity → List ℕ → Item  -- with its data
+  version : List ℕ → Item  -- a primary part handed in
+  versionDelete : List ℕ → Item  -- likewise
+  deletion : Identity → List ℕ → Item  -- a version delete made from an identifier and a delete ULID
+
+-- tags: two letters, as one number
+abbrev pub blockTag : ℕ
+blockTag = 0x626b  -- `bk`
+
+abbrev pub versionTag : ℕ
+versionTag = 0x7672  -- `vr`
+
+abbrev pub versionDeleteTag : ℕ
+versionDeleteTag = 0x7664  -- `vd`
+
+abbrev pub tagOf : Item → ℕ
+tagOf (block i d) = blockTag
+tagOf (version p) = versionTag
+tagOf (versionDelete p) = versionDeleteTag
+tagOf (deletion i u) = versionDeleteTag
+
+abbrev pub valueOf : Item → List ℕ
+valueOf (block i d) = blockValue i d
+valueOf (version p) = partValue p
+valueOf (versionDelete p) = partValue p
+valueOf (deletion i u) = partValue (deletePart i u)
+
+-- the record's bytes; bytes 28 and 29 are 0
+abbrev pub recordOf : ℕ → List ℕ → Record
+recordOf tag value = record { spare = 0; tag = tag; value = value }
+
+abbrev pub itemBytes : Item → List ℕ
+itemBytes item = layout (recordOf (tagOf item) (valueOf item))
+
+-- ---- what is admitted
+
+abbrev pub isRead : {A : Type 0} → primary.Answer A → Bool
+isRead (primary.read a) = true
+isRead (primary.refused n) = false
+
+abbrev pub admitted : Item → Bool
+admitted (block i d) = isValid i
+admitted (version p) = isRead (primary.version p)
+admitted (versionDelete p) = isRead (primary.versionDelete p)
+admitted (deletion i u) = isValid i && isUlid u
+
+-- what an identifier's struct asks for; nothing, where it names none
+abbrev pub ofIdentity : (Identity → Item) → Option Identity → Option Item
+ofIdentity item none = none
+ofIdentity item (some i) = some (item i)
+
+-- ---- the answer
+
+pub data Answer : Type 0 where
+  count : ℕ → Answer  -- the bytes of the pack with the record
+  refused : ℕ → Answer  -- with document 01's number
+
+abbrev pub answerOf : Written → Answer
+answerOf (Count n) = count n
+answerOf Short = refused 19
+answerOf Inadmissible = refused 20
+
+-- of a record of n bytes that is admitted: the limit first, then the room
+unfoldable pub counted : ℕ → ℕ → ℕ → ℕ → Answer
+counted limit room used n = cond (leb (used + n) limit) (cond (leb (used + n) room) (count (used + n)) (refused 19)) (refused 20)
+
+unfoldable pub written : ℕ → ℕ → ℕ → Option Item → Answer
+written limit room used none = refused 20
+written limit room used (some item) = cond (admitted item) (counted limit room used (length (itemBytes item))) (refused 20)
+
+-- ---- the buffer: as it was on a refusal; else the record stands directly after the bytes so far, and every other byte is kept
+
+abbrev pub leftBy : Answer → List ℕ → ℕ → List ℕ → List ℕ
+leftBy (count n) buf used bytes = overwritten buf used bytes
+leftBy (refused n) buf used bytes = buf
+
+-- what a call does with a record that is admitted
+pub record Stores (used : ℕ) (bytes buf : List ℕ) (answer : Written) (after : List ℕ) : Type 0 where
+  pub told : answerOf answer ≡ counted packLimit (length buf) used (length bytes)
+  pub left : after ≡ leftBy (counted packLimit (length buf) used (length bytes)) buf used bytes
+
+unfoldable pub bufferAfter : ℕ → ℕ → Option Item → List ℕ → List ℕ
+bufferAfter limit used none buf = buf
+bufferAfter limit used (some item) buf = leftBy (written limit (length buf) used (some item)) buf used (itemBytes item)
