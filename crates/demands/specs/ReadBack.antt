@@ -1,6 +1,6 @@
 -- Demand 2: each list of records that document 01 admits, that makes a pack within the limit and that the buffer holds, is written and reads back as that list.
 use Prim.Native.Nat.{ℕ, _+_, _^_, _≤_, _<_}
-use mathlib.Core.Bool.{Bool, true, false, _&&_}
+use mathlib.Core.Bool.{true}
 use mathlib.Core.List.{List, [], _∷_, _++_, append-assoc}
 use mathlib.Core.Path.{_≡_, refl, sym, ap, _∙_}
 use native.Mathlib.Nat.{zero-add}
@@ -9,21 +9,21 @@ use lib.ListN.{length, take, drop, length-append}
 use lib.Seq.{take-at, drop-at}
 use Rattle.endian.specs.Places.{overwritten}
 use Rattle.tlv.specs.Layout as tlv
-use Rattle.tlv.specs.Layout.{Fits, layout, layouts, length-layout}
+use Rattle.tlv.specs.Layout.{Fits, layouts, length-layout}
 use Rattle.pack.specs.declared.Entry.{Entry}
-use Rattle.pack.specs.Reading.{Reading, whole, reading}
+use Rattle.pack.specs.Reading.{whole, reading}
 use Rattle.pack.specs.Acceptance.{AllFit, entryOf, entriesOf, layouts-accepted}
 use Rattle.msgpack.specs.HeadLaws.{absurd-numbers}
 use Rattle.primary.specs.Parts.{Answer, refused, read}
 use Rattle.primary.specs.Parts as primary
 use Rattle.records.specs.Record as records
-use Rattle.records.specs.Record.{Record, AtPlace, there, readRecord, atPlace, recordAt, isRead, ofVersion, ofVersionDelete}
+use Rattle.records.specs.Record.{Record, there, readRecord, atPlace, recordAt, isRead, ofVersion, ofVersionDelete}
 use Rattle.records.specs.Laws.{tag-and-value}
-use Rattle.records_model.specs.Record.{RecordHeld, recordIn, withHeld, IsHeld, is-held}
+use Rattle.records_model.specs.Record.{RecordHeld, recordIn, withHeld, is-held}
 use Rattle.records_model.specs.Written.{heldAlone}
 use Rattle.writer.specs.Writing.{Item, block, version, versionDelete, deletion, tagOf, valueOf, itemBytes, admitted}
 use Rattle.writer.specs.Meaning.{heldOf, AreBytes, item-bytes, item-reads}
-use Rattle.writer.specs.Calls.{Ending, all-written, writeAll, AllAdmitted, recordFor, recordsOf, calls-write}
+use Rattle.writer.specs.Calls.{all-written, writeAll, AllAdmitted, recordFor, recordsOf, calls-write}
 
 abbrev pub AllBytesOf : List Item → Type 0
 AllBytesOf [] = Unit {0}

@@ -1,6 +1,6 @@
 -- An encoding is a list of bytes.
 use Prim.Native.Nat.{ℕ}
-use mathlib.Core.List.{List, []}
+use mathlib.Core.List.{List}
 use native.Mathlib.Omega.{arith}
 use Rattle.endian.specs.Bytes.{AllBytes, none-bytes, cons-bytes, append-bytes}
 use Rattle.msgpack.specs.Readers.{Int}

@@ -3,13 +3,13 @@ use Prim.Native.Nat.{ℕ, _+_, _≤_}
 use mathlib.Core.Bool.{true}
 use mathlib.Core.List.{List, [], _∷_, _++_, map, append-nil}
 use mathlib.Core.Option.{some}
-use mathlib.Core.Path.{_≡_, refl, sym, ap, _∙_}
-use native.Mathlib.Nat.{add-zero, add-assoc}
+use mathlib.Core.Path.{_≡_, _∙_}
+use native.Mathlib.Nat.{add-zero}
 use native.Mathlib.Omega.{arith}
 use borrow.Author.Tests.{le-leb}
-use lib.ListN.{length, take, drop, length-append, take-append-drop}
+use lib.ListN.{length, length-append, take-append-drop}
 use Rattle.endian.specs.Places.{overwritten, length-overwritten, overwritten-more}
-use Rattle.tlv.specs.Layout.{Record, layout, layouts}
+use Rattle.tlv.specs.Layout.{Record, layouts}
 use Rattle.writer.specs.Writing.{Item, tagOf, valueOf, recordOf, itemBytes, admitted, Answer, count, refused, counted, written, bufferAfter}
 
 -- how the calls end: the last count and the buffer; or the number of the call that was refused

@@ -1,22 +1,21 @@
 -- What is written encodes the headers and primary parts that document 01 names.
-use Prim.Native.Nat.{ℕ, _+_, _^_, _≤_, _<_}
+use Prim.Native.Nat.{ℕ, _+_, _^_, _<_}
 use mathlib.Core.Bool.{true}
 use mathlib.Core.List.{List, [], _∷_, _++_, append-assoc, append-nil}
-use mathlib.Core.Path.{_≡_, refl, sym, ap, _∙_}
+use mathlib.Core.Path.{_≡_}
 use native.Mathlib.Omega.{arith}
-use lib.ListN.{length, length-append}
-use Rattle.endian.specs.Bytes.{AllBytes, none-bytes, cons-bytes, append-bytes}
-use Rattle.msgpack.specs.Readers.{plus}
-use Rattle.msgpack.specs.Writers.{textHead, binaryHead, unsignedInteger, arrayHead, mapHead}
+use lib.ListN.{length}
+use Rattle.endian.specs.Bytes.{AllBytes, none-bytes, cons-bytes}
+use Rattle.msgpack.specs.Writers.{unsignedInteger, arrayHead, mapHead}
 use Rattle.msgpack_model.specs.Values as model
-use Rattle.msgpack_model.specs.Values.{Value, Text, Binary, no-values, no-pairs}
-use Rattle.msgpack_model.specs.Encoding.{Encodes, EncodesPairs, no-pair, next-pair, EncodesValues, none, next}
+use Rattle.msgpack_model.specs.Values.{Value, Text, Binary, no-pairs}
+use Rattle.msgpack_model.specs.Encoding.{Encodes, EncodesPairs, no-pair, next-pair, none, next}
 use Rattle.msgpack_model.specs.Writers.{text-written, binary-written, unsigned-written, array-written, map-written}
 use Rattle.identifier.specs.Identity.{Identity, isValid, sizes}
 use Rattle.identifier.specs.Composite.{compositeText, composite-most}
 use Rattle.identifier.specs.Ulid.{isUlid, ulid-length}
 use Rattle.value.specs.Header.{primaryKey, secondaryKey, lengthKey}
-use Rattle.primary.specs.Parts.{bucketKey, objectKey, ulidKey, identifierKey, deleteIdKey}
+use Rattle.primary.specs.Parts.{bucketKey, objectKey, ulidKey, deleteIdKey}
 use Rattle.records_model.specs.Written as values
 use Rattle.writer.specs.Values.{textItem, pair, primaryHeader, secondaryHeader, blockHeader, partHeader, blockPart, partValue, identityPairs, deletePart}
 

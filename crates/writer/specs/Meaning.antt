@@ -1,11 +1,11 @@
 -- What each item means to a reader, and that the value written for it reads as that.
 use Prim.Native.Nat.{ℕ, _+_, _^_, _≤_, _<_}
-use mathlib.Core.Bool.{Bool, true, false, _&&_}
-use mathlib.Core.List.{List, [], _++_}
-use mathlib.Core.Path.{_≡_, refl, sym, ap, _∙_}
+use mathlib.Core.Bool.{true, _&&_}
+use mathlib.Core.List.{List, _++_}
+use mathlib.Core.Path.{_≡_, refl, ap}
 use native.Mathlib.Omega.{arith}
 use lib.ListN.{length, length-append}
-use Rattle.endian.specs.Bytes.{AllBytes, none-bytes, cons-bytes, append-bytes}
+use Rattle.endian.specs.Bytes.{AllBytes, cons-bytes, append-bytes}
 use Rattle.msgpack.specs.HeadLaws.{absurd-numbers}
 use Rattle.msgpack_model.specs.Encoding.{Encodes}
 use Rattle.msgpack_model.specs.Bytes.{encoding-bytes}
@@ -20,7 +20,7 @@ use Rattle.records.specs.Record.{versionTag, versionDeleteTag, isKnown, Content
 use Rattle.records_model.specs.Record.{RecordHeld, recordIn, withHeld}
 use Rattle.records_model.specs.Written as values
 use Rattle.records_model.specs.Written.{heldAlone, heldWith, plain-reads-back, block-reads-back, delete-reads-back}
-use Rattle.writer.specs.Values.{blockHeader, partHeader, blockPart, blockValue, partValue, deletePart}
+use Rattle.writer.specs.Values.{blockHeader, blockPart, blockValue, partValue, deletePart}
 use Rattle.writer.specs.Writing.{Item, block, version, versionDelete, deletion, tagOf, valueOf, admitted}
 use Rattle.writer.specs.Encoded.{part-value-encodes, block-header-encodes, block-part-encodes, IdentityBytes, delete-part-encodes}
 
