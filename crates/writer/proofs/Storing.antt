@@ -39,31 +39,33 @@ module _ (limit room used n : ℕ) where
       go true false f g = absurd-numbers (cc)
       go false b f g = absurd-numbers (cc)
 
--- a is what was answered for a value of n bytes
-module _ (used tag : ℕ) (value buf : List ℕ) (n : ℕ) (a : Written) (size : n ≡ length value) (answer : answerOf a ≡ counted packLimit (length buf) used (32 + n)) where
+-- a is what was answered for a value whose length was computed as n
+pub record Tested (used tag : ℕ) (value buf : List ℕ) (n : ℕ) (a : Written) : Type 0 where
+  pub size : n ≡ length value
+  pub answer : answerOf a ≡ counted packLimit (length buf) used (32 + n)
+
+module _ {used tag : ℕ} {value buf : List ℕ} {n : ℕ} {a : Written} (t : Tested used tag value buf n a) where
   abbrev bytes : List ℕ
   bytes = layout (recordOf tag value)
 
   counts : answerOf a ≡ counted packLimit (length buf) used (length bytes)
-  counts = answer ∙ ap (counted packLimit (length buf) used) (ap (λ (k : ℕ). 32 + k) size ∙ sym (length-layout (recordOf tag value)))
+  counts = t .answer ∙ ap (counted packLimit (length buf) used) (ap (λ (k : ℕ). 32 + k) (t .size) ∙ sym (length-layout (recordOf tag value)))
 
   pub stores-nothing : (b : Written) (k : ℕ) → a ≡ b → answerOf b ≡ refused k → Stores used bytes buf b buf
   stores-nothing b k e f =
       let told : answerOf b ≡ counted packLimit (length buf) used (length bytes) = ap answerOf (sym e) ∙ counts in
       record { told = told; left = rw (← told, f) refl }
 
-  module _ (m : ℕ) (there : a ≡ Count m) where
-    told : count m ≡ counted packLimit (length buf) used (length bytes)
-    told = ap answerOf (sym there) ∙ counts
-
+  module _ {m : ℕ} (there : a ≡ Count m) where
     pub fits : used + (32 + n) ≤ length buf
-    fits = room-inside packLimit (length buf) used (32 + n) m (ap answerOf (sym there) ∙ answer)
+    fits = room-inside packLimit (length buf) used (32 + n) m (ap answerOf (sym there) ∙ t .answer)
 
     pub value-fits : used + 32 + length value ≤ length buf
-    value-fits = omega (arith, fits, size)
+    value-fits = omega (arith, fits, t .size)
 
-    pub stores-record : (t after : List ℕ) (next : ℕ) → Puts buf (used + 32) value t next
-        → after ≡ overwritten t used (head (recordOf tag (take n (drop (used + 32) t)))) → Stores used bytes buf (Count m) after
-    stores-record t after next p e =
-        let f : after ≡ overwritten t used (head (recordOf tag (take (length value) (drop (used + 32) t)))) = rw (← size) e in
-        record { told = told; left = rw (← told) (record-put buf t after used next tag value (omega (arith, fits, size)) p f) }
+    pub stores-record : {put after : List ℕ} {next : ℕ} → Puts buf (used + 32) value put next
+        → after ≡ overwritten put used (head (recordOf tag (take n (drop (used + 32) put)))) → Stores used bytes buf (Count m) after
+    stores-record {put} {after} {next} p e =
+        let told : count m ≡ counted packLimit (length buf) used (length bytes) = ap answerOf (sym there) ∙ counts in
+        let f : after ≡ overwritten put used (head (recordOf tag (take (length value) (drop (used + 32) put)))) = rw (← t .size) e in
+        record { told = told; left = rw (← told) (record-put buf put after used next tag value (omega (arith, fits, t .size)) p f) }

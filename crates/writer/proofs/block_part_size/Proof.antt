@@ -23,7 +23,9 @@ add-result-2 : tie.Need-add-result-2
 add-result-2 c = omega (arith, sizes _ (c .before .before .before .before .pre), c .text-head-size .ensures .1)
 
 returns : tie.Need-returns
-returns c = (block-part-size _ _ _ (composite-length _ (c .before .before .before .before .pre)) (c .text-head-size .ensures .0), omega (arith, sizes _ (c .before .before .before .before .pre), c .text-head-size .ensures .1))
+returns c =
+    let entry = c .before .before .before .before in
+    (block-part-size _ _ _ (composite-length _ (entry .pre)) (c .text-head-size .ensures .0), omega (arith, sizes _ (entry .pre), c .text-head-size .ensures .1))
 
 pub block-part-size-spec : {M : Type 1} → statement M
 block-part-size-spec =

@@ -21,7 +21,9 @@ add-result-3 : tie.Need-add-result-3
 add-result-3 c = search needs
 
 returns : tie.Need-returns
-returns c = (omega (arith, length-pair (c .before .before .before .before .args .key .now) (c .before .before .before .before .args .text .now), c .before .text-head-size .ensures .0, c .text-head-size2 .ensures .0), omega (arith, c .before .text-head-size .ensures .1, c .text-head-size2 .ensures .1))
+returns c =
+    let entry = c .before .before .before .before in
+    (omega (arith, length-pair (entry .args .key .now) (entry .args .text .now), c .before .text-head-size .ensures .0, c .text-head-size2 .ensures .0), omega (arith, c .before .text-head-size .ensures .1, c .text-head-size2 .ensures .1))
 
 pub pair-size-spec : {M : Type 1} → statement M
 pair-size-spec =

@@ -14,14 +14,20 @@ put-secondary-requires c κs = first-fits (mapHead 2 ++ secondaryHeader (c .befo
 
 put-primary-requires : tie.Need-put-primary-requires
 unfolding blockHeader
-put-primary-requires c κs = (c .before .before .before .before .before .before .pre .0, next-fits _ _ refl (c .before .before .before .put-secondary .ensures) (c .before .before .before .before .before .before .pre .1))
+put-primary-requires c κs =
+    let at-put-secondary = c .before .before .before in
+    let entry = at-put-secondary .before .before .before in
+    (entry .pre .0, next-fits _ _ refl (at-put-secondary .put-secondary .ensures) (entry .pre .1))
 
 same-length : tie.Need-same-length
 same-length c = search needs
 
 returns : tie.Need-returns
 unfolding blockHeader
-returns c = puts-both _ _ refl (c .before .before .before .before .before .before .put-secondary .ensures) (c .before .before .put-primary .ensures) (c .before .before .before .before .before .before .before .before .before .pre .1)
+returns c =
+    let at-put-secondary = c .before .before .before .before .before .before in
+    let entry = at-put-secondary .before .before .before in
+    puts-both _ _ refl (at-put-secondary .put-secondary .ensures) (c .before .before .put-primary .ensures) (entry .pre .1)
 
 pub put-block-header-spec : {M : Type 1} → statement M
 put-block-header-spec =

@@ -9,16 +9,24 @@ slice-aggregate-put : tie.Need-slice-aggregate-put
 slice-aggregate-put c = search needs
 
 put-requires : tie.Need-put-requires
-put-requires c κs = first-fits blockPartStart _ (block-part _) _ _ (c .before .before .before .before .before .before .pre .1)
+put-requires c κs =
+    let entry = c .before .before .before .before .before .before in
+    first-fits blockPartStart _ (block-part _) _ _ (entry .pre .1)
 
 put-composite-requires : tie.Need-put-composite-requires
-put-composite-requires c κs = (c .before .before .before .before .before .before .before .before .before .before .pre .0, next-fits _ _ (block-part _) (c .before .before .before .put .ensures) (c .before .before .before .before .before .before .before .before .before .before .pre .1))
+put-composite-requires c κs =
+    let at-put = c .before .before .before in
+    let entry = at-put .before .before .before .before .before .before .before in
+    (entry .pre .0, next-fits _ _ (block-part _) (at-put .put .ensures) (entry .pre .1))
 
 same-length : tie.Need-same-length
 same-length c = search needs
 
 returns : tie.Need-returns
-returns c = puts-both _ _ (block-part _) (c .before .before .before .before .before .before .put .ensures) (c .before .before .put-composite .ensures) (c .before .before .before .before .before .before .before .before .before .before .before .before .before .pre .1)
+returns c =
+    let at-put = c .before .before .before .before .before .before in
+    let entry = at-put .before .before .before .before .before .before .before in
+    puts-both _ _ (block-part _) (at-put .put .ensures) (c .before .before .put-composite .ensures) (entry .pre .1)
 
 pub put-block-part-spec : {M : Type 1} → statement M
 put-block-part-spec =

@@ -14,7 +14,9 @@ add-n-2 : tie.Need-add-n-2
 add-n-2 c = omega (arith, sizes _ (c .before .before .before .before .pre .0))
 
 cast-write-text-head : tie.Need-cast-write-text-head
-cast-write-text-head c = omega (arith, sizes _ (c .before .before .before .before .before .pre .0))
+cast-write-text-head c =
+    let entry = c .before .before .before .before .before in
+    omega (arith, sizes _ (entry .pre .0))
 
 write-text-head-requires : tie.Need-write-text-head-requires
 write-text-head-requires c κs = search needs
@@ -26,13 +28,21 @@ write-parts-requires : tie.Need-write-parts-requires
 write-parts-requires c κs = search needs
 
 add-result : tie.Need-add-result
-add-result c = let h = composite-room (c .before .before .before .before .before .before .before .before .before .before .before .before .before .args .out .now) (c .before .before .before .before .before .before .before .before .before .before .before .before .before .args .at) _ (composite-length _ (c .before .before .before .before .before .before .before .before .before .before .before .before .before .pre .0)) (c .before .before .before .before .before .before .before .write-text-head .ensures .0) (c .before .before .before .before .before .before .before .write-text-head .ensures .1) (c .before .before .before .before .place .ensures) (c .before .before .before .before .before .before .before .before .before .before .before .before .before .pre .1) in omega arith
+add-result c =
+    let at-place = c .before .before .before .before in
+    let at-write-text-head = at-place .before .before .before in
+    let entry = at-write-text-head .before .before .before .before .before .before in
+    let h = composite-room (entry .args .out .now) (entry .args .at) _ (composite-length _ (entry .pre .0)) (at-write-text-head .write-text-head .ensures .0) (at-write-text-head .write-text-head .ensures .1) (at-place .place .ensures) (entry .pre .1) in omega arith
 
 same-length : tie.Need-same-length
 same-length c = search needs
 
 returns : tie.Need-returns
-returns c = composite-put (c .before .before .before .before .before .before .before .before .before .before .before .before .before .args .out .now) (c .before .before .before .before .before .before .before .before .before .before .before .before .before .args .at) _ (composite-length _ (c .before .before .before .before .before .before .before .before .before .before .before .before .before .pre .0)) (c .before .before .before .before .before .before .before .write-text-head .ensures .0) (c .before .before .before .before .before .before .before .write-text-head .ensures .1) (c .before .before .before .before .place .ensures) (c .before .before .before .before .before .before .before .before .before .before .before .before .before .pre .1) (c .before .before .before .before .before .before .before .before .before .before .before .before .before .pre .0) (c .before .before .write-parts .ensures .1)
+returns c =
+    let at-place = c .before .before .before .before in
+    let at-write-text-head = at-place .before .before .before in
+    let entry = at-write-text-head .before .before .before .before .before .before in
+    composite-put (entry .args .out .now) (entry .args .at) _ (composite-length _ (entry .pre .0)) (at-write-text-head .write-text-head .ensures .0) (at-write-text-head .write-text-head .ensures .1) (at-place .place .ensures) (entry .pre .1) (entry .pre .0) (c .before .before .write-parts .ensures .1)
 
 pub put-composite-spec : {M : Type 1} → statement M
 put-composite-spec =

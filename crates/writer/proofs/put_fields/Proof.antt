@@ -39,13 +39,21 @@ same-length c = search needs
 returns : tie.Need-returns
 unfolding front
 returns c =
-    let a = puts-both _ _ refl (c .before .before .before .before .before .before .before .before .before .before .before .before .before .before .before .before .before .before .before .before .before .before .before .before .before .before .before .put-number .ensures .0) (c .before .before .before .before .before .before .before .before .before .before .before .before .before .before .before .before .before .before .before .before .before .before .before .put-number2 .ensures .0) (simp (length-append, length-bigBytes) (omega (arith, c .before .before .before .before .before .before .before .before .before .before .before .before .before .before .before .before .before .before .before .before .before .before .before .before .before .before .before .before .before .before .pre))) in
-    let b = puts-both _ _ refl a (c .before .before .before .before .before .before .before .before .before .before .before .before .before .before .before .before .before .before .before .put-number3 .ensures .0) (simp (length-append, length-bigBytes) (omega (arith, c .before .before .before .before .before .before .before .before .before .before .before .before .before .before .before .before .before .before .before .before .before .before .before .before .before .before .before .before .before .before .pre))) in
-    let d = puts-both _ _ refl b (c .before .before .before .before .before .before .before .before .before .before .before .before .before .before .before .put-number4 .ensures .0) (simp (length-append, length-bigBytes) (omega (arith, c .before .before .before .before .before .before .before .before .before .before .before .before .before .before .before .before .before .before .before .before .before .before .before .before .before .before .before .before .before .before .pre))) in
-    let e = puts-both _ _ refl d (c .before .before .before .before .before .before .before .before .before .before .put-number5 .ensures .0) (simp (length-append, length-bigBytes) (omega (arith, c .before .before .before .before .before .before .before .before .before .before .before .before .before .before .before .before .before .before .before .before .before .before .before .before .before .before .before .before .before .before .pre))) in
-    let f = puts-both _ _ refl e (c .before .before .before .before .before .before .put-number6 .ensures .0) (simp (length-append, length-bigBytes) (omega (arith, c .before .before .before .before .before .before .before .before .before .before .before .before .before .before .before .before .before .before .before .before .before .before .before .before .before .before .before .before .before .before .pre))) in
-    let g = puts-both _ _ refl f (c .before .before .put-number7 .ensures .0) (simp (length-append, length-bigBytes) (omega (arith, c .before .before .before .before .before .before .before .before .before .before .before .before .before .before .before .before .before .before .before .before .before .before .before .before .before .before .before .before .before .before .pre))) in
-    (g, omega (arith, c .before .before .before .before .before .before .before .before .before .before .before .before .before .before .before .before .before .before .before .before .before .before .before .before .before .before .before .put-number .ensures .1, c .before .before .before .before .before .before .before .before .before .before .before .before .before .before .before .before .before .before .before .before .before .before .before .put-number2 .ensures .1, c .before .before .before .before .before .before .before .before .before .before .before .before .before .before .before .before .before .before .before .put-number3 .ensures .1, c .before .before .before .before .before .before .before .before .before .before .before .before .before .before .before .put-number4 .ensures .1, c .before .before .before .before .before .before .before .before .before .before .put-number5 .ensures .1, c .before .before .before .before .before .before .put-number6 .ensures .1, c .before .before .put-number7 .ensures .1))
+    let at-put-number6 = c .before .before .before .before .before .before in
+    let at-put-number5 = at-put-number6 .before .before .before .before in
+    let at-put-number4 = at-put-number5 .before .before .before .before .before in
+    let at-put-number3 = at-put-number4 .before .before .before .before in
+    let at-put-number2 = at-put-number3 .before .before .before .before in
+    let at-put-number = at-put-number2 .before .before .before .before in
+    let entry = at-put-number .before .before .before in
+    let fits = entry .pre in
+    let a = puts-both _ _ refl (at-put-number .put-number .ensures .0) (at-put-number2 .put-number2 .ensures .0) (simp (length-append, length-bigBytes) (omega (arith, fits))) in
+    let b = puts-both _ _ refl a (at-put-number3 .put-number3 .ensures .0) (simp (length-append, length-bigBytes) (omega (arith, fits))) in
+    let d = puts-both _ _ refl b (at-put-number4 .put-number4 .ensures .0) (simp (length-append, length-bigBytes) (omega (arith, fits))) in
+    let e = puts-both _ _ refl d (at-put-number5 .put-number5 .ensures .0) (simp (length-append, length-bigBytes) (omega (arith, fits))) in
+    let f = puts-both _ _ refl e (at-put-number6 .put-number6 .ensures .0) (simp (length-append, length-bigBytes) (omega (arith, fits))) in
+    let g = puts-both _ _ refl f (c .before .before .put-number7 .ensures .0) (simp (length-append, length-bigBytes) (omega (arith, fits))) in
+    (g, omega (arith, at-put-number .put-number .ensures .1, at-put-number2 .put-number2 .ensures .1, at-put-number3 .put-number3 .ensures .1, at-put-number4 .put-number4 .ensures .1, at-put-number5 .put-number5 .ensures .1, at-put-number6 .put-number6 .ensures .1, c .before .before .put-number7 .ensures .1))
 
 pub put-fields-spec : {M : Type 1} → statement M
 put-fields-spec =

@@ -50,11 +50,15 @@ same-length c = search needs
 
 returns : tie.Need-returns
 returns c =
-    let a = c .before .before .before .before .before .before .before .before .before .before .before .before .before .before .before .args in
+    let at-xxh64 = c .before .before .before .before in
+    let at-put-fields = at-xxh64 .before .before .before .before .before in
+    let at-make = at-put-fields .before .before in
+    let entry = at-make .before .before .before .before in
+    let a = entry .args in
     let s = drop (a .at + 32) (a .out .now) in
     let k : a .at + 32 + a .value - (a .at + 32) ≡ a .value = omega arith in
-    let made-there = c .before .before .before .before .before .before .before .before .before .before .before .make .ensures ∙ ap (λ (n : ℕ). made (a .tag) (take n s)) k in
-    header-put _ _ _ _ _ _ _ _ _ (take (a .value) s) made-there (omega arith) (c .before .before .before .before .before .before .before .before .before .put-fields .ensures .0) (c .before .before .before .before .before .before .before .before .before .put-fields .ensures .1) (c .before .before .before .before .xxh64 .ensures) (c .before .before .put-number .ensures .0)
+    let made-there = at-make .make .ensures ∙ ap (λ (n : ℕ). made (a .tag) (take n s)) k in
+    header-put _ _ _ _ _ _ _ _ _ (take (a .value) s) made-there (omega arith) (at-put-fields .put-fields .ensures .0) (at-put-fields .put-fields .ensures .1) (at-xxh64 .xxh64 .ensures) (c .before .before .put-number .ensures .0)
 
 pub put-header-spec : {M : Type 1} → statement M
 put-header-spec =

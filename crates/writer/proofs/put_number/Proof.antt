@@ -15,7 +15,9 @@ same-length : tie.Need-same-length
 same-length c = search needs
 
 returns : tie.Need-returns
-returns c = (number-put (c .before .before .before .before .before .args .width) (c .before .before .before .before .before .args .n) (c .before .before .write-big .ensures .1) refl (c .before .before .before .before .before .pre .0) (c .before .before .before .before .before .pre .1), refl)
+returns c =
+    let entry = c .before .before .before .before .before in
+    (number-put (entry .args .width) (entry .args .n) (c .before .before .write-big .ensures .1) refl (entry .pre .0) (entry .pre .1), refl)
 
 pub put-number-spec : {M : Type 1} → statement M
 put-number-spec = tie.close (tie.spec write-big-requires add-result same-length returns)

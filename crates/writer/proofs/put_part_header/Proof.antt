@@ -12,13 +12,19 @@ put-requires : tie.Need-put-requires
 put-requires c κs = first-fits partStart _ (part-header _) _ _ (c .before .before .before .pre .1)
 
 put-primary-requires : tie.Need-put-primary-requires
-put-primary-requires c κs = (c .before .before .before .before .before .before .before .pre .0, next-fits _ _ (part-header _) (c .before .before .before .put .ensures) (c .before .before .before .before .before .before .before .pre .1))
+put-primary-requires c κs =
+    let at-put = c .before .before .before in
+    let entry = at-put .before .before .before .before in
+    (entry .pre .0, next-fits _ _ (part-header _) (at-put .put .ensures) (entry .pre .1))
 
 same-length : tie.Need-same-length
 same-length c = search needs
 
 returns : tie.Need-returns
-returns c = puts-both _ _ (part-header _) (c .before .before .before .before .before .before .put .ensures) (c .before .before .put-primary .ensures) (c .before .before .before .before .before .before .before .before .before .before .pre .1)
+returns c =
+    let at-put = c .before .before .before .before .before .before in
+    let entry = at-put .before .before .before .before in
+    puts-both _ _ (part-header _) (at-put .put .ensures) (c .before .before .put-primary .ensures) (entry .pre .1)
 
 pub put-part-header-spec : {M : Type 1} → statement M
 put-part-header-spec =

@@ -25,9 +25,12 @@ same-length c = search needs
 
 returns : tie.Need-returns
 returns c =
-    let first = c .before .before .before .before .before .before .before .put .ensures in
-    let head = head-put (c .before .before .before .write-binary-head .ensures .0) (c .before .before .before .write-binary-head .ensures .1) (c .place .ensures) (next-fits _ _ (primary _) first (c .before .before .before .before .before .before .before .before .before .before .before .pre .1)) in
-    puts-both _ _ (primary _) first head (c .before .before .before .before .before .before .before .before .before .before .before .pre .1)
+    let at-write-binary-head = c .before .before .before in
+    let at-put = at-write-binary-head .before .before .before .before in
+    let entry = at-put .before .before .before .before in
+    let first = at-put .put .ensures in
+    let head = head-put (at-write-binary-head .write-binary-head .ensures .0) (at-write-binary-head .write-binary-head .ensures .1) (c .place .ensures) (next-fits _ _ (primary _) first (entry .pre .1)) in
+    puts-both _ _ (primary _) first head (entry .pre .1)
 
 pub put-primary-spec : {M : Type 1} → statement M
 put-primary-spec =

@@ -22,9 +22,12 @@ same-length c = search needs
 
 returns : tie.Need-returns
 returns c =
-    let first = c .before .before .before .before .before .before .before .put .ensures in
-    let head = head-put (c .before .before .before .write-unsigned .ensures .0) (c .before .before .before .write-unsigned .ensures .1) (c .place .ensures) (next-fits _ _ (secondary _) first (c .before .before .before .before .before .before .before .before .before .before .before .pre)) in
-    puts-both _ _ (secondary _) first head (c .before .before .before .before .before .before .before .before .before .before .before .pre)
+    let at-write-unsigned = c .before .before .before in
+    let at-put = at-write-unsigned .before .before .before .before in
+    let entry = at-put .before .before .before .before in
+    let first = at-put .put .ensures in
+    let head = head-put (at-write-unsigned .write-unsigned .ensures .0) (at-write-unsigned .write-unsigned .ensures .1) (c .place .ensures) (next-fits _ _ (secondary _) first (entry .pre)) in
+    puts-both _ _ (secondary _) first head (entry .pre)
 
 pub put-secondary-spec : {M : Type 1} → statement M
 put-secondary-spec =

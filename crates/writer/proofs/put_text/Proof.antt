@@ -9,6 +9,7 @@ use Rattle.writer.proofs.Chains.{first-fits, next-fits, puts-both, head
 use Rattle.writer.proofs.put_text.Statement.{statement}
 use Rattle.writer.proofs.put_text.Tie as tie
 
+-- the head is written
 head : (c : tie.After-put-arg) → Puts (c .before .before .before .before .before .before .before .before .args .out .now) (c .before .before .before .before .before .before .before .before .args .at) (textHead (length (c .before .before .before .before .before .before .before .before .args .s .now))) (c .before .before .before .before .write-text-head .last .0) (c .before .place .result)
 unfolding textItem
 head c = head-put (c .before .before .before .before .write-text-head .ensures .0) (c .before .before .before .before .write-text-head .ensures .1) (c .before .place .ensures) (first-fits (textHead (length (c .before .before .before .before .before .before .before .before .args .s .now))) (c .before .before .before .before .before .before .before .before .args .s .now) refl _ _ (c .before .before .before .before .before .before .before .before .pre .1))

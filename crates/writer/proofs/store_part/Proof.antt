@@ -1,5 +1,5 @@
 -- The lengths are tested; then the value is written, and the header in front of it.
-use mathlib.Core.Path.{_≡_, refl}
+use mathlib.Core.Path.{refl}
 use native.Mathlib.Omega.{arith}
 use borrow.Author.Needs.{needs}
 use lib.ListN.{length}
@@ -7,18 +7,23 @@ use Rattle.writer.specs.Limits.{content-within, too-long}
 use Rattle.writer.specs.Values.{partValue}
 use Rattle.writer.specs.Writing.{version}
 use Rattle.writer.specs.declared.Written.the-variants.{Short, Inadmissible}
+use Rattle.writer.proofs.Storing.{Tested, stores-nothing, fits, value-fits, stores-record}
 use Rattle.writer.proofs.Fixed.{part-value-size}
-use Rattle.writer.proofs.Storing.{stores-nothing, fits, value-fits, stores-record}
 use Rattle.writer.proofs.store_part.Statement.{statement}
 use Rattle.writer.proofs.store_part.Tie as tie
 
-size : (c : tie.After-room) → c .before .part-value-size .result ≡ length (partValue (c .before .before .before .before .before .args .part .now))
-size c = part-value-size _ _ _ refl (c .before .part-value-size .ensures)
+abbrev start : tie.After-room → tie.Start
+start c = c .before .before .before .before .before
+
+-- the lengths that the test of the room was given
+tested : (c : tie.After-room) → Tested (start c .args .used) (start c .args .tag) (partValue (start c .args .part .now)) (start c .args .buf .now) (c .before .part-value-size .result) (c .room .result)
+tested c = record { size = part-value-size _ _ _ refl (c .before .part-value-size .ensures); answer = c .room .ensures }
 
 returns : tie.Need-returns
 returns c =
-    let p = c .before .before .before .args .part .now in
-    let e = too-long _ (length (c .before .before .before .args .buf .now)) (c .before .before .before .args .used) (c .before .before .before .args .tag) p _ (content-within (version p)) (c .if1 .taken) in
+    let entry = c .before .before .before in
+    let p = entry .args .part .now in
+    let e = too-long _ (length (entry .args .buf .now)) (entry .args .used) (entry .args .tag) p _ (content-within (version p)) (c .if1 .taken) in
     record { told = e; left = rw (← e) refl }
 
 part-value-size-requires : tie.Need-part-value-size-requires
@@ -31,13 +36,17 @@ enum-known-end : tie.Need-enum-known-end
 enum-known-end c = search needs
 
 add-put-part-value : tie.Need-add-put-part-value
-add-put-part-value c = omega (arith, fits (c .before .before .before .before .before .before .before .before .before .args .used) (c .before .before .before .before .before .before .before .before .before .args .tag) (partValue (c .before .before .before .before .before .before .before .before .before .args .part .now)) (c .before .before .before .before .before .before .before .before .before .args .buf .now) _ _ (size (c .before .before .before .before)) (c .before .before .before .before .room .ensures) _ (c .before .before .end .given .1))
+add-put-part-value c = omega (arith, fits (tested (c .before .before .before .before)) (c .before .before .end .given .1))
 
 put-part-value-requires : tie.Need-put-part-value-requires
-put-part-value-requires c κs = (search needs, value-fits (c .before .before .before .before .before .before .before .before .before .args .used) (c .before .before .before .before .before .before .before .before .before .args .tag) (partValue (c .before .before .before .before .before .before .before .before .before .args .part .now)) (c .before .before .before .before .before .before .before .before .before .args .buf .now) _ _ (size (c .before .before .before .before)) (c .before .before .before .before .room .ensures) _ (c .before .before .end .given .1))
+put-part-value-requires c κs = (search needs, value-fits (tested (c .before .before .before .before)) (c .before .before .end .given .1))
 
 put-header-requires : tie.Need-put-header-requires
-put-header-requires c κs = omega (arith, fits (c .before .before .before .before .before .before .before .before .before .before .before .before .before .args .used) (c .before .before .before .before .before .before .before .before .before .before .before .before .before .args .tag) (partValue (c .before .before .before .before .before .before .before .before .before .before .before .before .before .args .part .now)) (c .before .before .before .before .before .before .before .before .before .before .before .before .before .args .buf .now) _ _ (size (c .before .before .before .before .before .before .before .before)) (c .before .before .before .before .before .before .before .before .room .ensures) _ (c .before .before .before .before .before .before .end .given .1), c .before .before .before .put-part-value .kept .0)
+put-header-requires c κs =
+    let at-put-part-value = c .before .before .before in
+    let at-end = at-put-part-value .before .before .before in
+    let at-room = at-end .before .before in
+    omega (arith, fits (tested at-room) (at-end .end .given .1), at-put-part-value .put-part-value .kept .0)
 
 enum-told : tie.Need-enum-told
 enum-told c = search needs
@@ -49,13 +58,17 @@ same-length : tie.Need-same-length
 same-length c = search needs
 
 returns-2 : tie.Need-returns-2
-returns-2 c = stores-record (c .before .before .before .before .before .before .before .before .before .before .before .before .before .before .before .before .args .used) (c .before .before .before .before .before .before .before .before .before .before .before .before .before .before .before .before .args .tag) (partValue (c .before .before .before .before .before .before .before .before .before .before .before .before .before .before .before .before .args .part .now)) (c .before .before .before .before .before .before .before .before .before .before .before .before .before .before .before .before .args .buf .now) _ _ (size (c .before .before .before .before .before .before .before .before .before .before .before)) (c .before .before .before .before .before .before .before .before .before .before .before .room .ensures) _ (c .before .before .before .before .before .before .before .before .before .end .given .1) _ _ _ (c .before .before .before .before .before .before .put-part-value .ensures) (c .before .before .put-header .ensures)
+returns-2 c =
+    let at-put-part-value = c .before .before .before .before .before .before in
+    let at-end = at-put-part-value .before .before .before in
+    let at-room = at-end .before .before in
+    stores-record (tested at-room) (at-end .end .given .1) (at-put-part-value .put-part-value .ensures) (c .before .before .put-header .ensures)
 
 returns-3 : tie.Need-returns-3
-returns-3 c = stores-nothing (c .before .before .before .before .before .before .before .args .used) (c .before .before .before .before .before .before .before .args .tag) (partValue (c .before .before .before .before .before .before .before .args .part .now)) (c .before .before .before .before .before .before .before .args .buf .now) _ _ (size (c .before .before)) (c .before .before .room .ensures) Short 19 (c .enum-told .given .1) refl
+returns-3 c = stores-nothing (tested (c .before .before)) Short 19 (c .enum-told .given .1) refl
 
 returns-4 : tie.Need-returns-4
-returns-4 c = stores-nothing (c .before .before .before .before .before .before .before .args .used) (c .before .before .before .before .before .before .before .args .tag) (partValue (c .before .before .before .before .before .before .before .args .part .now)) (c .before .before .before .before .before .before .before .args .buf .now) _ _ (size (c .before .before)) (c .before .before .room .ensures) Inadmissible 20 (c .enum-told2 .given .1) refl
+returns-4 c = stores-nothing (tested (c .before .before)) Inadmissible 20 (c .enum-told2 .given .1) refl
 
 pub store-part-spec : {M : Type 1} → statement M
 store-part-spec =

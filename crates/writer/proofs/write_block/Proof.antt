@@ -10,6 +10,7 @@ use Rattle.writer.proofs.Calls.{Named, call-stores, call-unnamed, admit
 use Rattle.writer.proofs.write_block.Statement.{statement}
 use Rattle.writer.proofs.write_block.Tie as tie
 
+-- the arrays are as long as they are declared
 lengths : (s : tie.Start) → (length (s .args .id .bucket) ≡ 63) × (length (s .args .id .object) ≡ 1024)
 lengths s = (search needs, search needs)
 
@@ -31,27 +32,37 @@ slice-aggregate-store-block : tie.Need-slice-aggregate-store-block
 slice-aggregate-store-block c = search needs
 
 array-share-prefix-bucket : tie.Need-array-share-prefix-bucket
-array-share-prefix-bucket c = omega (arith, known (c .before .before .before .before .before) .bucket, lengths (c .before .before .before .before .before .before .before .before .before) .0)
+array-share-prefix-bucket c =
+    let at-if1 = c .before .before .before .before .before in
+    let entry = at-if1 .before .before .before .before in
+    omega (arith, known at-if1 .bucket, lengths entry .0)
 
 slice-aggregate-store-block-2 : tie.Need-slice-aggregate-store-block-2
 slice-aggregate-store-block-2 c = sym (length-take-le _ _ (array-share-prefix-bucket (c .before)))
 
 array-share-prefix-object : tie.Need-array-share-prefix-object
-array-share-prefix-object c = omega (arith, known (c .before .before .before .before .before .before) .object, lengths (c .before .before .before .before .before .before .before .before .before .before) .1)
+array-share-prefix-object c =
+    let at-if1 = c .before .before .before .before .before .before in
+    let entry = at-if1 .before .before .before .before in
+    omega (arith, known at-if1 .object, lengths entry .1)
 
 slice-aggregate-store-block-3 : tie.Need-slice-aggregate-store-block-3
 slice-aggregate-store-block-3 c = sym (length-take-le _ _ (array-share-prefix-object (c .before)))
 
 store-block-requires : tie.Need-store-block-requires
-store-block-requires c κs = known (c .before .before .before .before .before .before .before) .valid
+store-block-requires c κs =
+    let at-if1 = c .before .before .before .before .before .before .before in
+    known at-if1 .valid
 
 same-length : tie.Need-same-length
 same-length c = search needs
 
 returns-2 : tie.Need-returns-2
 returns-2 c =
-    let n = known (c .before .before .before .before .before .before .before .before .before .before) in
-    let call = call-stores _ _ (block _ (c .before .before .before .before .before .before .before .before .before .before .before .before .before .before .args .content .now)) _ _ (n .valid) (c .before .before .store-block .ensures) in
+    let at-if1 = c .before .before .before .before .before .before .before .before .before .before in
+    let entry = at-if1 .before .before .before .before in
+    let n = known at-if1 in
+    let call = call-stores _ _ (block _ (entry .args .content .now)) _ _ (n .valid) (c .before .before .store-block .ensures) in
     (rw (n .names) (call .answer), rw (n .names) (call .buffer))
 
 pub write-block-spec : {M : Type 1} → statement M

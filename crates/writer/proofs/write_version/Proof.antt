@@ -32,7 +32,8 @@ returns c =
 
 returns-2 : tie.Need-returns-2
 returns-2 c =
-    let p = c .before .before .before .before .before .args .part .now in
+    let entry = c .before .before .before .before .before in
+    let p = entry .args .part .now in
     let faults = ap isRead (sym (c .before .before .read-version .ensures .0) ∙ ap (versionOf p) (c .enum-told2 .given .1)) in
     let call = call-refused _ _ (version p) faults in
     (call .answer, call .buffer)
