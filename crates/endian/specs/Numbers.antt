@@ -6,7 +6,7 @@ use native.Mathlib.Nat.{pow-suc, mod-one, one-le-pow}
 use native.Mathlib.Omega.{arith}
 use lib.Arith.{mod-mul}
 use lib.Dec.{lit<}
-use lib.ListN.{length, length-append, length-reverse}
+use lib.ListN.{length, length-reverse}
 use Rattle.endian.specs.Bytes.{AllBytes, none-bytes, tail-bytes, cons-bytes, reverse-bytes}
 
 -- the number of a list of bytes, least significant byte first

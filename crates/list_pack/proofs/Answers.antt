@@ -1,16 +1,16 @@
 -- What an answer of the scan into a list of 2,048 entries says of the reading, and so of the text.
-use Prim.Native.Nat.{ℕ, _+_, _*_, _≤_, _<_}
+use Prim.Native.Nat.{ℕ, _+_, _*_, _≤_}
 use mathlib.Core.Bool.{Bool, true, false, cond}
 use mathlib.Core.List.{List, [], _∷_, _++_}
 use mathlib.Core.Path.{_≡_, refl, sym, ap, subst, _∙_}
 use native.Mathlib.Omega.{arith}
-use borrow.Author.Tests.{leb-true, leb-false, le-leb}
+use borrow.Author.Tests.{leb-true, le-leb}
 use lib.Dec.{leb}
-use lib.ListN.{length, take, drop, length-replicate, length-append, length-drop}
+use lib.ListN.{length, take, drop, length-replicate, length-append}
 use lib.Seq.{take-at}
 use Rattle.endian.specs.Bytes.{AllBytes}
 use Rattle.pack.specs.declared.Entry.{Entry}
-use Rattle.pack.specs.Reading.{Reading, Ending, whole, refused, Outcome, counted, alone, outcome, reading, packLimit}
+use Rattle.pack.specs.Reading.{Reading, Ending, whole, refused, Outcome, counted, alone, reading, packLimit}
 use Rattle.pack.specs.Scan.{scanned, listAfter}
 use Rattle.pack.specs.Acceptance.{Fills, accepted-fills}
 use Rattle.list_pack.specs.Listing.{noEntries}

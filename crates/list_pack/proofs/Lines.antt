@@ -6,7 +6,7 @@ use native.Mathlib.Omega.{arith}
 use lib.ListN.{length, getD, take, length-append}
 use Rattle.pack.specs.declared.Entry.{Entry}
 use Rattle.list_pack.specs.Put.{Put, put-none, put-length, put-then}
-use Rattle.list_pack.specs.Text.{decimal, hex4, space, newline, recordsWord, refusedWord, atWord, line, lines, countLine, refusalLine, decimal-length, hex4-length, line-length, lines-more}
+use Rattle.list_pack.specs.Text.{decimal, hex4, space, newline, recordsWord, refusedWord, atWord, line, lines, countLine, refusalLine, decimal-length, line-length, lines-more}
 
 module _ {s0 s1 s2 s3 : List ℕ} {at m1 m2 m3 : ℕ} where
   pub count-put : (n : ℕ) → at + 29 ≤ length s0 → Put s0 at recordsWord s1 m1 → Put s1 m1 (decimal n) s2 m2 → Put s2 m2 newline s3 m3 → Put s0 at (countLine n) s3 m3

@@ -1,6 +1,6 @@
 // Lists a pack that it reads from standard input.
 ghost use mathlib.Core.Path.{_≡_};
-ghost use Prim.Native.Nat.{_+_, _*_, _≤_};
+ghost use Prim.Native.Nat.{_+_, _≤_};
 ghost use lib.ListN.{length, take};
 ghost use Rattle.list_pack.specs.Put.{Put};
 ghost use Rattle.list_pack.specs.Text.{decimal, hex4, line, lines, countLine, refusalLine, text};

@@ -6,12 +6,11 @@ use native.Mathlib.Nat.{add-zero, zero-add, add-assoc}
 use native.Mathlib.Omega.{arith}
 use borrow.Author.Tests.{le-ltb, lt-ltb}
 use lib.ListN.{length, drop, length-drop}
-use lib.Seq.{drop-drop}
 use Rattle.tlv.specs.Found.{end, found, fault, step}
 use Rattle.tlv.specs.Stands.{step-stands}
 use Rattle.tlv.specs.declared.RecordHeader.{RecordHeader}
 use Rattle.pack.specs.declared.Entry.{Entry}
-use Rattle.pack.specs.Reading.{Reading, Ending, whole, refused, cons, records, reading, packLimit, Outcome, counted, alone, outcome, records-end, records-fault, records-found, entryAt}
+use Rattle.pack.specs.Reading.{Reading, Ending, whole, refused, cons, records, reading, packLimit, Outcome, counted, alone, outcome, records-end, records-fault, records-on, entryAt}
 
 -- so many records more
 abbrev plus : ℕ → Outcome → Outcome
@@ -55,16 +54,13 @@ module _ (s : List ℕ) (at count : ℕ) (going : Going s at count) where
 
     pub goes-on : Going s (at + 32 + h .length) (count + 1)
     goes-on =
-        let rest = records (at + (32 + h .length)) 0 (drop (32 + h .length) (drop at s)) in
-        let place : at + (32 + h .length) ≡ at + 32 + h .length = omega arith in
-        let left : drop (32 + h .length) (drop at s) ≡ drop (at + 32 + h .length) s = drop-drop (32 + h .length) at s ∙ ap (λ (p : ℕ). drop p s) place in
+        let rest = records (at + 32 + h .length) 0 (drop (at + 32 + h .length) s) in
         record {
           so-far =
               going .so-far
-              ∙ ap (λ (r : Reading). plus count (outcome r)) (records-found at (drop at s) h there)
+              ∙ ap (λ (r : Reading). plus count (outcome r)) (records-on at s h there)
               ∙ ap (plus count) (outcome-cons (entryAt at h) (rest .entries) (rest .ending))
-              ∙ plus-one count (outcome rest)
-              ∙ (λ i. plus (count + 1) (outcome (records (place i) 0 (left i))));
+              ∙ plus-one count (outcome rest);
           inside = room;
           few = let f : count ≤ at = going .few in omega arith;
         }

@@ -1,6 +1,6 @@
 -- When a pack is accepted, and what its reading says. The records of a list, one after the other, are its layouts; where a fault is met, the front
 -- up to it is accepted by itself.
-use Prim.Native.Nat.{ℕ, zero, suc, _+_, _≤_, _<_, _^_}
+use Prim.Native.Nat.{ℕ, zero, suc, _+_, _≤_}
 use mathlib.Core.List.{List, [], _∷_, _++_, append-assoc, append-nil}
 use mathlib.Core.Logic.{_↔_, _⊎_, inl, inr, ⊎-elim}
 use mathlib.Core.Path.{_≡_, refl, sym, ap, subst₂, _∙_}

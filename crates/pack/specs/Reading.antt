@@ -7,6 +7,7 @@ use native.Mathlib.Nat.{add-zero}
 use native.Mathlib.Omega.{arith}
 use lib.Dec.{ltb}
 use lib.ListN.{length, drop}
+use lib.Seq.{drop-drop}
 use Rattle.tlv.specs.Found.{Found, end, found, fault, step, step-none, numberOf}
 use Rattle.tlv.specs.declared.RecordHeader.{RecordHeader}
 use Rattle.pack.specs.declared.Entry.{Entry}
@@ -96,6 +97,12 @@ pub records-found : (at : ℕ) (s : List ℕ) (h : RecordHeader) → step s ≡ 
 records-found at s h e =
     let l : suc (31 + h .length) ≡ 32 + h .length = omega arith in
     rw (records-next at s, e, l)
+
+-- the same at a place of the whole pack: after a record, the reading goes on where the record ends
+pub records-on : (at : ℕ) (s : List ℕ) (h : RecordHeader) → step (drop at s) ≡ found h → records at 0 (drop at s) ≡ cons (entryAt at h) (records (at + 32 + h .length) 0 (drop (at + 32 + h .length) s))
+records-on at s h e =
+    let place : at + (32 + h .length) ≡ at + 32 + h .length = omega arith in
+    records-found at (drop at s) h e ∙ rw (drop-drop (32 + h .length) at s, place)
 
 -- ---- places are counted from where the reading begins
 

@@ -1,12 +1,11 @@
 -- The scan: how it ends, and what the lent list holds afterwards.
-use Prim.Native.Nat.{ℕ, zero, suc, _+_, _≤_}
+use Prim.Native.Nat.{ℕ, zero, suc, _+_}
 use mathlib.Core.Bool.{cond}
 use mathlib.Core.List.{List, [], _∷_, _++_}
 use mathlib.Core.Path.{_≡_, refl, sym, ap, _∙_}
 use native.Mathlib.Omega.{arith}
 use lib.Dec.{leb}
 use lib.ListN.{length, getD, drop}
-use lib.Seq.{drop-drop}
 use Rattle.tlv.specs.Found.{Found, end, found, fault, step, numberOf}
 use Rattle.tlv.specs.Passing.{passAt, pass-found}
 use Rattle.tlv.specs.declared.RecordHeader.{RecordHeader}
@@ -14,7 +13,7 @@ use Rattle.pack.specs.declared.Entry.{Entry}
 use Rattle.pack.specs.declared.Listed.{Listed}
 use Rattle.pack.specs.declared.Scanned.{Scanned}
 use Rattle.pack.specs.declared.Scanned.the-variants as Scanned
-use Rattle.pack.specs.Reading.{Reading, Ending, whole, refused, records, Outcome, counted, alone, outcome, entryAt, records-end, records-fault, records-found}
+use Rattle.pack.specs.Reading.{Reading, Ending, whole, refused, records, Outcome, counted, alone, outcome, entryAt, records-end, records-fault, records-on}
 
 -- what each answer of the code says
 abbrev pub scannedOf : Scanned → Outcome
@@ -57,11 +56,9 @@ unfoldable pub firstEntries : ℕ → List ℕ → ℕ → List Entry
 firstEntries zero s at = []
 firstEntries (suc n) s at = listedAt s at .entry ∷ firstEntries n s (listedAt s at .next)
 
-listed-found : (s : List ℕ) (at : ℕ) (h : RecordHeader) → step (drop at s) ≡ found h → listedAt s at ≡ record { entry = entryAt at h; next = at + (32 + h .length) }
+listed-found : (s : List ℕ) (at : ℕ) (h : RecordHeader) → step (drop at s) ≡ found h → listedAt s at ≡ record { entry = entryAt at h; next = at + 32 + h .length }
 unfolding listedAt
-listed-found s at h e =
-    let place : at + 32 + h .length ≡ at + (32 + h .length) = omega arith in
-    rw (pass-found s at h e, place)
+listed-found s at h e = rw (pass-found s at h e)
 
 none-first : (e : Entry) (es fs : List Entry) → _≡_ {A = List Entry} [] (e ∷ es) → fs ≡ e ∷ es
 none-first e es fs p = absurd (let z : _≡_ {A = ℕ} 0 (suc (length es)) = ap length p in omega arith)
@@ -76,9 +73,8 @@ first-entries (d ∷ es) s at e = go (step (drop at s)) refl (λ p. first-entrie
     go end there more = none-first d es _ (sym (ap (λ (r : Reading). r .entries) (records-end at (drop at s) there)) ∙ e)
     go (fault n) there more = none-first d es _ (sym (ap (λ (r : Reading). r .entries) (records-fault at (drop at s) n there)) ∙ e)
     go (found h) there more =
-        let rest = drop (32 + h .length) (drop at s) in
-        let left : rest ≡ drop (at + (32 + h .length)) s = drop-drop (32 + h .length) at s in
-        let one : entryAt at h ∷ records (at + (32 + h .length)) 0 rest .entries ≡ d ∷ es = sym (ap (λ (r : Reading). r .entries) (records-found at (drop at s) h there)) ∙ e in
+        let next : ℕ = at + 32 + h .length in
+        let one : entryAt at h ∷ records next 0 (drop next s) .entries ≡ d ∷ es = sym (ap (λ (r : Reading). r .entries) (records-on at s h there)) ∙ e in
         let first : entryAt at h ≡ d = ap (λ (l : List Entry). getD l 0 d) one in
-        let others : records (at + (32 + h .length)) 0 (drop (at + (32 + h .length)) s) .entries ≡ es = rw left at (ap (drop 1) one) in
-        rw (listed-found s at h there) (λ i. first i ∷ more (at + (32 + h .length)) others i)
+        let others : records next 0 (drop next s) .entries ≡ es = ap (drop 1) one in
+        rw (listed-found s at h there) (λ i. first i ∷ more next others i)

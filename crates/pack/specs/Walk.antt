@@ -3,18 +3,16 @@ use Prim.Native.Nat.{ℕ, zero, suc, _+_, _≤_, _<_}
 use mathlib.Core.Bool.{Bool, true, false, cond}
 use mathlib.Core.List.{List, [], _∷_}
 use mathlib.Core.Path.{_≡_, refl, ap, _∙_}
-use native.Mathlib.Omega.{arith}
 use borrow.Author.Tests.{lt-ltb, le-ltb, ltb-true, ltb-false}
 use lib.Dec.{ltb}
 use lib.ListN.{length, drop}
-use lib.Seq.{drop-drop}
 use Rattle.tlv.specs.Found.{Found, end, found, fault, step, numberOf}
 use Rattle.tlv.specs.declared.RecordHeader.{RecordHeader}
 use Rattle.pack.specs.declared.Entry.{Entry}
 use Rattle.pack.specs.declared.Walked.{Walked}
 use Rattle.pack.specs.declared.Walked.the-variants as Walked
 use Rattle.pack.specs.declared.Turn.{Turn}
-use Rattle.pack.specs.Reading.{Reading, Ending, whole, refused, records, reading, entryAt, records-end, records-fault, records-found}
+use Rattle.pack.specs.Reading.{Reading, Ending, whole, refused, records, reading, entryAt, records-end, records-fault, records-on}
 
 pub data Yield : Type 0 where
   entry : Entry → Yield
@@ -113,12 +111,10 @@ module _ (limit : ℕ) (s : List ℕ) where
 
     yields-from : (n at : ℕ) → Yields at n
     unfolding placeFrom
-    yields-from zero at = by-step at 0 (λ h e. rw (records-found at (drop at s) h e, turn-found limit s at within (found h) e))
+    yields-from zero at = by-step at 0 (λ h e. rw (records-on at s h e, turn-found limit s at within (found h) e))
     yields-from (suc n) at = by-step at (suc n) (λ h e.
-        let place : at + (32 + h .length) ≡ at + 32 + h .length = omega arith in
-        let left : drop (32 + h .length) (drop at s) ≡ drop (at + 32 + h .length) s = drop-drop (32 + h .length) at s ∙ ap (λ (p : ℕ). drop p s) place in
         let next : turnAt limit s at .place ≡ at + 32 + h .length = ap (λ (c : Call). c .place) (turn-found limit s at within (found h) e) in
-        rw (records-found at (drop at s) h e, place, left, ← place-next at n, next) (yields-from n (at + 32 + h .length)))
+        rw (records-on at s h e, ← place-next at n, next) (yields-from n (at + 32 + h .length)))
 
 -- call number n of a new walker, from 0
 pub walk-yields : (limit : ℕ) (s : List ℕ) (n : ℕ) → turnAt limit s (placeOf limit s n) .yield ≡ nthYield (reading limit s) n

@@ -2,7 +2,7 @@
 use Prim.Native.Nat.{ℕ, _+_, _≤_}
 use mathlib.Core.Bool.{Bool}
 use mathlib.Core.List.{List}
-use mathlib.Core.Path.{_≡_, refl, sym, ap, subst, _∙_}
+use mathlib.Core.Path.{_≡_, subst}
 use lib.ListN.{length, take, drop}
 use Rattle.tlv.specs.declared.Fault as tlv
 use Rattle.msgpack.specs.HeadLaws.{absurd-numbers}

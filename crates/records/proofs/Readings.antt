@@ -1,8 +1,8 @@
 -- The definitions of the readings, from the answers that their steps gave.
 use Prim.Native.Nat.{ℕ, _+_, _-_, _≤_, _<_}
-use mathlib.Core.Bool.{Bool, true, false, not, _||_}
+use mathlib.Core.Bool.{true, false, not, _||_}
 use mathlib.Core.List.{List}
-use mathlib.Core.Path.{_≡_, refl, sym, ap, _∙_}
+use mathlib.Core.Path.{_≡_, sym, ap, _∙_}
 use native.Mathlib.Omega.{arith}
 use borrow.Author.Tests.{eq-eqb, ne-eqb, le-leb, lt-leb, le-ltb, lt-ltb}
 use lib.Dec.{eqb}
@@ -15,7 +15,7 @@ use Rattle.primary.specs.Answers.{numberOf}
 use Rattle.primary.specs.declared.Fault.{Fault}
 use Rattle.primary.specs.declared.Texts.{Texts}
 use Rattle.records.specs.Record.{isKnown, contents, toldRows, primaryIn, withTold, unless, alone, refusedAt, byStep, recordAt}
-use Rattle.records.specs.Answers.{partOf, contentsIn, recordIn, ContentsInside, PartInside}
+use Rattle.records.specs.Answers.{partOf, recordIn, ContentsInside, PartInside}
 use Rattle.records.specs.declared.Kind.{Kind}
 use Rattle.records.specs.declared.PartRead.{PartRead}
 use Rattle.records.specs.declared.PartRead.the-variants.{Read, Refused}

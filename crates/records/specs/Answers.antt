@@ -5,7 +5,6 @@ use mathlib.Core.Path.{_≡_}
 use lib.ListN.{length, take, drop}
 use Rattle.tlv.specs.Found as tlv
 use Rattle.value.specs.Reading as value
-use Rattle.value.specs.declared.Told.{Told}
 use Rattle.primary.specs.Parts.{Answer, refused, read}
 use Rattle.primary.specs.Answers as primary
 use Rattle.primary.specs.Answers.{textIn, textsIn, Inside, AllInside}

@@ -3,10 +3,10 @@ use Prim.Native.Nat.{ℕ, _+_, _≤_}
 use mathlib.Core.Bool.{Bool, true, false, cond, not, _||_}
 use mathlib.Core.List.{List, _++_, append-assoc}
 use mathlib.Core.Logic.{_↔_}
-use mathlib.Core.Option.{Option, none, some}
-use mathlib.Core.Path.{_≡_, refl, sym, ap, _∙_}
+use mathlib.Core.Option.{none, some}
+use mathlib.Core.Path.{_≡_, refl, ap, _∙_}
 use native.Mathlib.Omega.{arith}
-use borrow.Author.Tests.{eq-eqb, eqb-true, not-false, le-ltb, lt-leb}
+use borrow.Author.Tests.{eq-eqb, eqb-true, le-ltb, lt-leb}
 use lib.Dec.{eqb}
 use lib.ListN.{length, take, drop, length-append}
 use lib.Seq.{drop-at, take-at, drop-append-seam}
@@ -18,7 +18,7 @@ use Rattle.value.specs.Reading as value
 use Rattle.value.specs.declared.Told.{Told}
 use Rattle.msgpack.specs.HeadLaws.{absurd-numbers}
 use Rattle.primary.specs.Parts.{Answer, refused, read}
-use Rattle.records.specs.Record.{isKnown, Contents, contents, Record, toldRows, primaryIn, withTold, unless, byValue, readRecord, isRead, canBeRead, atPlace, valueAt, recordAt}
+use Rattle.records.specs.Record.{isKnown, Contents, contents, Record, toldRows, primaryIn, withTold, unless, byValue, readRecord, isRead, canBeRead, atPlace, recordAt}
 
 -- ---- a record is read exactly when all this holds
 

@@ -2,14 +2,13 @@
 use Prim.Native.Nat.{ℕ, _+_, _-_, _≤_}
 use mathlib.Core.Bool.{Bool, true, false, cond, _&&_, true≢false}
 use mathlib.Core.List.{List}
-use mathlib.Core.Path.{_≡_, refl, sym, ap, _∙_}
+use mathlib.Core.Path.{_≡_, refl, sym}
 use native.Mathlib.Omega.{arith}
 use borrow.Author.Tests.{le-leb, le-ltb, leb-true}
 use lib.Dec.{leb}
 use lib.ListN.{length, drop, length-drop}
-use Rattle.tlv.specs.Layout.{field}
-use Rattle.tlv.specs.Found.{headerOf, noHeader, fieldsOf, found, step}
-use Rattle.tlv.specs.Stands.{Stands, step-stands}
+use Rattle.tlv.specs.Found.{noHeader, fieldsOf, found, step}
+use Rattle.tlv.specs.Stands.{step-stands}
 use Rattle.tlv.specs.declared.RecordHeader.{RecordHeader}
 use Rattle.tlv.specs.declared.Passed.{Passed}
 

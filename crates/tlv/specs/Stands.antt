@@ -3,19 +3,19 @@
 use Prim.Native.Nat.{ℕ, _+_, _-_, _%_, _≤_, _<_, _^_}
 use mathlib.Core.Bool.{Bool, true, false, not, cond}
 use mathlib.Core.List.{List, [], _∷_, _++_, append-assoc, append-nil}
-use mathlib.Core.Option.{Option, none, some}
+use mathlib.Core.Option.{none, some}
 use mathlib.Core.Path.{_≡_, refl, sym, ap, subst, _∙_}
 use native.Mathlib.Nat.{mod-eq-of-lt}
 use native.Mathlib.Omega.{arith}
 use borrow.Author.Tests.{eqb-true, eq-eqb, ne-eqb, ltb-false, le-ltb, not-false}
-use lib.Dec.{eqb, ltb, lit<}
-use lib.ListN.{length, take, drop, length-append, length-take, take-append-drop, length-drop}
-use lib.Seq.{take-at, drop-at, length-take-le, take-append-le, take-add, drop-drop}
-use Rattle.endian.specs.Bytes.{AllBytes, append-bytes, take-bytes, drop-bytes}
-use Rattle.endian.specs.Numbers.{big, bigBytes, length-bigBytes, bigBytes-bytes, bigBytes-mod, big-lt}
+use lib.Dec.{eqb, lit<}
+use lib.ListN.{length, take, drop, length-append, length-drop}
+use lib.Seq.{take-at, drop-at, length-take-le, take-add}
+use Rattle.endian.specs.Bytes.{AllBytes, take-bytes, drop-bytes}
+use Rattle.endian.specs.Numbers.{bigBytes, bigBytes-mod, big-lt}
 use Rattle.xxh64.specs.Xxh64.{xxh64, xxh64-lt}
-use Rattle.tlv.specs.Layout.{Record, Fits, Field, magic, field, fields, bytesOf, layout, cut, head, bytesOf-cut, field-after, field-nth, length-front, length-head, length-layout}
-use Rattle.tlv.specs.Found.{Row, headerRows, valueRows, lowest, headerOf, made, Found, end, found, fault, unless, unless-found, step}
+use Rattle.tlv.specs.Layout.{Record, Fits, magic, field, fields, bytesOf, layout, head, bytesOf-cut, field-after, field-nth, length-front, length-head, length-layout}
+use Rattle.tlv.specs.Found.{Row, headerRows, valueRows, lowest, headerOf, made, end, found, unless, unless-found, step}
 use Rattle.tlv.specs.declared.RecordHeader.{RecordHeader}
 
 -- none of the refusals 2 to 8 applies to what stands at the front of s, and h is its header

@@ -1,5 +1,5 @@
 -- The header of a value, as document 01's "The value" describes it: what it tells of the two parts, or nothing where it is not as described.
-use Prim.Native.Nat.{ℕ, _+_}
+use Prim.Native.Nat.{ℕ}
 use mathlib.Core.Bool.{Bool, true, false, cond, _||_}
 use mathlib.Core.List.{List, [], _∷_}
 use mathlib.Core.Option.{Option, none, some}

@@ -18,9 +18,9 @@ use Rattle.msgpack.specs.HeadLaws.{absurd-numbers}
 use Rattle.msgpack.specs.PassingLaws.{bounded}
 use Rattle.msgpack.specs.ReaderLaws.{part-inside}
 use Rattle.msgpack.specs.LookupLaws.{value-inside}
-use Rattle.value.specs.Fields.{naturalUnder, shifted, bytesUnder, isThere}
+use Rattle.value.specs.Fields.{naturalUnder, shifted, bytesUnder}
 use Rattle.value.specs.Header.{primaryKey, secondaryKey, lengthKey, compressionKey, versionKey, onlyIf, alone, withMap, withItems, withList, header}
-use Rattle.value.specs.Reading.{Answer, told, refused, filled, byItem, reading}
+use Rattle.value.specs.Reading.{told, refused, filled, byItem, reading}
 use Rattle.value.specs.declared.Told.{Told}
 
 -- ---- what an answer that is there came from

@@ -1,6 +1,5 @@
 // The value of a record: the header, which is one MessagePack map, and then the secondary part.
 ghost use mathlib.Core.Path.{_≡_};
-ghost use mathlib.Core.Option.{some};
 ghost use Prim.Native.Nat.{_+_, _≤_};
 ghost use lib.ListN.{length, take, drop};
 ghost use Rattle.endian.specs.Places.{numberOf as numberRead};

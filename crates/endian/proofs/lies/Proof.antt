@@ -1,5 +1,4 @@
 -- `endian::lies` meets its contract. The test subtracts where the contract adds.
-use borrow.Author.Needs.{needs}
 use borrow.Author.Tests.{lt-leb}
 use mathlib.Core.Path.{sym}
 use Prim.Native.Nat.{_+_}

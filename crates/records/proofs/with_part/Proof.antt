@@ -1,8 +1,5 @@
 -- `records::with_part` meets its contract: the part that is lent is the primary part.
 use borrow.Author.Needs.{needs}
-use mathlib.Core.Path.{sym, ap, _∙_}
-use Rattle.records.specs.Record.{withTold}
-use Rattle.records.specs.Answers.{partOf}
 use Rattle.records.proofs.Places.{record-inside, refused-inside}
 use Rattle.records.proofs.Readings.{record-read, contents-inside, part-refused}
 use Rattle.records.proofs.with_part.Statement.{statement}

@@ -7,7 +7,6 @@ use lib.ListN.{drop, length-drop}
 use Rattle.msgpack.specs.Readers.{part, partOf, readBinary}
 use Rattle.msgpack.specs.Formats.{binaryKind}
 use Rattle.msgpack.specs.ReaderLaws.{part-inside}
-use Rattle.value.specs.Fields.{shifted}
 use Rattle.value.proofs.Lookups.{part-to-end}
 use Rattle.value.proofs.bytes_at.Statement.{statement}
 use Rattle.value.proofs.bytes_at.Tie as tie

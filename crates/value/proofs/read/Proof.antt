@@ -1,7 +1,6 @@
 -- `value::read` meets its contract, by what passing over the first item finds.
 use borrow.Author.Needs.{needs}
 use mathlib.Core.Path.{_≡_, sym, ap, _∙_}
-use native.Mathlib.Omega.{arith}
 use Rattle.msgpack.specs.Items.{whole, passageOf, passOver}
 use Rattle.msgpack.specs.PassingLaws.{bounded}
 use Rattle.value.specs.Reading.{reading}
