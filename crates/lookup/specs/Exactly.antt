@@ -41,7 +41,7 @@ current-member c = rw (c .cut) (Memᴰ·append-right (c .front) (List·Memᴰ·h
 
 -- ---- names
 
-has-name : (bucket object : List ℕ) (i : Identity) → hasName (some i) bucket object ≡ true → (i .bucket ≡ bucket) × (i .object ≡ object)
+pub has-name : (bucket object : List ℕ) (i : Identity) → hasName (some i) bucket object ≡ true → (i .bucket ≡ bucket) × (i .object ≡ object)
 unfolding hasName
 has-name bucket object i e =
     let h = both (sameBytes (i .bucket) bucket) (sameBytes (i .object) object) e in

@@ -5,3 +5,5 @@ pub mod Exactly
 pub mod Packs
 pub mod Deletion
 pub mod Order
+pub mod Walk
+pub mod Search

@@ -12,7 +12,7 @@ use Rattle.tlv.specs.Stands.{recordOf, record-of-layout}
 use Rattle.pack.specs.Acceptance.{AllFit}
 use Rattle.identifier.specs.Identity.{Identity}
 use Rattle.lookup.specs.Current.{Role, version, deletion, other, unreadable, role, Placed, placedBy, Version, versionBy, versionOf, current, isName, lookup}
-use Rattle.lookup.specs.Roles.{version-role}
+use Rattle.lookup.specs.Roles.{version-told, version-role}
 use Rattle.lookup.specs.Best.{clash, no-version, same-version}
 use Rattle.lookup.specs.Exactly.{Live, IsCurrent, current-member, same-name, current-is, none-exactly}
 use Rattle.lookup.specs.Packs.{Readable, SameAnswer, unplaced, same-answers}
@@ -108,17 +108,6 @@ module _ (ps qs : List Placed) (there : (p : Placed) → List·Memᴰ p ps → L
 
 -- ---- the theorem
 
--- a record that tells a version has its role
-told : (limit start tag : ℕ) (value : List ℕ) (v : Version) → versionOf (placedBy limit start tag value) ≡ some v → role limit tag value ≡ version (v .identifier) (v .deleteFlag)
-unfolding versionOf
-told limit start tag value v e = go (role limit tag value) e
-  where
-    go : (r : Role) → versionBy start value r ≡ some v → r ≡ version (v .identifier) (v .deleteFlag)
-    go (version i f) e = let h = same-version e in rw (← h)
-    go (deletion i) e = no-version e
-    go other e = no-version e
-    go (unreadable n) e = no-version e
-
 members-unplaced : (limit : ℕ) (rs ts : List Record) → ((r : Record) → List·Memᴰ r rs → List·Memᴰ r ts) → (p : Placed) → List·Memᴰ p (map (unplaced limit) rs) → List·Memᴰ p (map (unplaced limit) ts)
 members-unplaced limit rs ts there p m =
     let o = Memᴰ·of-map (unplaced limit) rs m in
@@ -133,8 +122,8 @@ alike-unplaced : (limit : ℕ) (rs : List Record) → OneValue limit rs → Alik
 alike-unplaced limit rs one p q v w m n e f same =
     let a = Memᴰ·of-map (unplaced limit) rs m in
     let b = Memᴰ·of-map (unplaced limit) rs n in
-    let r : role limit (a .0 .tag) (a .0 .value) ≡ version (v .identifier) (v .deleteFlag) = told limit 0 (a .0 .tag) (a .0 .value) v (ap versionOf (a .2) ∙ e) in
-    let s : role limit (b .0 .tag) (b .0 .value) ≡ version (v .identifier) (w .deleteFlag) = told limit 0 (b .0 .tag) (b .0 .value) w (ap versionOf (b .2) ∙ f) ∙ ap (λ i. version i (w .deleteFlag)) (sym same) in
+    let r : role limit (a .0 .tag) (a .0 .value) ≡ version (v .identifier) (v .deleteFlag) = version-told limit 0 (a .0 .tag) (a .0 .value) v (ap versionOf (a .2) ∙ e) in
+    let s : role limit (b .0 .tag) (b .0 .value) ≡ version (v .identifier) (w .deleteFlag) = version-told limit 0 (b .0 .tag) (b .0 .value) w (ap versionOf (b .2) ∙ f) ∙ ap (λ i. version i (w .deleteFlag)) (sym same) in
     sym (a .2)
     ∙ one-record limit (a .0) (b .0) (v .identifier) (v .deleteFlag) (w .deleteFlag) r s (one (a .0) (b .0) (v .identifier) (v .deleteFlag) (w .deleteFlag) (a .1) (b .1) r s)
     ∙ b .2

@@ -2,6 +2,7 @@
 use Prim.Native.Nat.{ℕ}
 use mathlib.Core.Bool.{Bool, true, false, cond, _||_}
 use mathlib.Core.List.{List}
+use mathlib.Core.Option.{some}
 use mathlib.Core.Path.{_≡_, refl, sym, ap, subst, _∙_}
 use borrow.Author.Tests.{eqb-true}
 use lib.Dec.{eqb}
@@ -12,7 +13,7 @@ use Rattle.primary.specs.Exactly.{version-names}
 use Rattle.records.specs.Record as records
 use Rattle.records.specs.Record.{versionTag, versionDeleteTag, readRecord, Contents, contents, ofVersion, ofVersionDelete, primaryIn}
 use Rattle.records.specs.Laws.{read-as}
-use Rattle.lookup.specs.Current.{Role, version, deletion, other, unreadable, roleBy, roleOf, isLookedAt, role}
+use Rattle.lookup.specs.Current.{Role, version, deletion, other, unreadable, roleBy, roleOf, isLookedAt, role, placedBy, Version, versionBy, versionOf}
 
 -- a `vd` that is read names its version identifier
 pub delete-role : (limit : ℕ) (value : List ℕ) (x : records.Record) → readRecord limit versionDeleteTag value ≡ primary.read x → role limit versionDeleteTag value ≡ deletion (x .contents .identifier)
@@ -66,3 +67,16 @@ version-role limit tag value i f e = first (eqb tag versionTag) refl (eqb tag ve
         record { tag-is = is; rules = version-valid limit value i f (ap (λ t. role limit t value) (sym is) ∙ e) }
     first false p true q h = absurd (delete-no-version limit value i f (ap (λ t. role limit t value) (sym (eqb-true tag versionDeleteTag q)) ∙ e))
     first false p false q h = absurd-numbers (cc)
+
+-- a record that tells a version has that role
+pub version-told : (limit start tag : ℕ) (value : List ℕ) (v : Version) → versionOf (placedBy limit start tag value) ≡ some v → role limit tag value ≡ version (v .identifier) (v .deleteFlag)
+unfolding versionOf
+version-told limit start tag value v e = go (role limit tag value) e
+  where
+    go : (r : Role) → versionBy start value r ≡ some v → r ≡ version (v .identifier) (v .deleteFlag)
+    go (version i f) h =
+        let is : record { identifier = i; deleteFlag = f; value = value; start = start } ≡ v = cc in
+        rw (← is)
+    go (deletion i) h = absurd-numbers (cc)
+    go other h = absurd-numbers (cc)
+    go (unreadable n) h = absurd-numbers (cc)
