@@ -7,3 +7,4 @@ pub mod Deletion
 pub mod Order
 pub mod Walk
 pub mod Search
+pub mod Examples
