@@ -1,17 +1,19 @@
 -- The current version, said without a computation: the record is there and is live, no live one has a greater ULID, and none before it has the same identifier.
 use Prim.Native.Nat.{ℕ}
-use mathlib.Core.Bool.{Bool, true, false, not, _||_, true≢false, or-true}
-use mathlib.Core.List.{List, [], _∷_, _++_, List·Memᴰ, List·Memᴰ·head, List·Memᴰ·tail, List·Memᴰ·not-nil, List·Memᴰ·cases-cons, Memᴰ·append-left, Memᴰ·append-right}
-use mathlib.Core.Logic.{_↔_, ⊎-elim}
-use mathlib.Core.Option.{none, some}
+use mathlib.Core.Bool.{Bool, true, false, cond, not, _||_, true≢false, or-true}
+use mathlib.Core.List.{List, [], _∷_, _++_, map, append-nil, List·Memᴰ, List·Memᴰ·head, List·Memᴰ·tail, List·Memᴰ·not-nil, List·Memᴰ·cases-cons, Memᴰ·append-left, Memᴰ·append-right}
+use mathlib.Core.Logic.{_↔_, _⊎_, inl, inr, ⊎-elim}
+use mathlib.Core.Option.{Option, none, some}
 use mathlib.Core.Path.{_≡_, refl, sym, ap, subst, _∙_}
 use borrow.Author.Tests.{not-true}
 use Rattle.endian.specs.Bytes.{sameBytes, same-bytes-refl, same-bytes-equal}
+use Rattle.pack.specs.Reading.{Ending, whole, refused, reading}
+use Rattle.msgpack.specs.HeadLaws.{absurd-numbers}
 use Rattle.identifier.specs.Texts.{less, both}
 use Rattle.identifier.specs.Order.{less-irreflexive}
 use Rattle.identifier.specs.Identity.{Identity, sameIdentity, sameIdentity-refl, sameIdentity-true}
 use Rattle.identifier.specs.Held.{hasName}
-use Rattle.lookup.specs.Current.{Role, version, deletion, other, unreadable, Placed, Version, versionOf, best, deletes, isDeleted, isLive, current}
+use Rattle.lookup.specs.Current.{Role, version, deletion, other, unreadable, Placed, placed, Version, versionOf, best, deletes, isDeleted, isLive, current, Answer, nothing, found, refusedAt, alone, unreadableFirst, readability, unlessRefused, answerOf, answerIn, isName, lookup}
 use Rattle.lookup.specs.Best.{either, clash, not-so, neither-less, ulidOf, same-version, Passes, Best, best-member, best-greatest, best-none, best-found, found-best, none-best}
 
 -- ---- the account
@@ -161,3 +163,101 @@ module _ (ps : List Placed) (bucket object : List ℕ) where
     λ e p v m l. best-none (isLive ps bucket object) ps e p v m (live-passes p v l),
     λ h. none-best (isLive ps bucket object) ps (λ p v m o. h p v m (passes-live p v o)),
   )
+
+-- ---- the first record that cannot be read
+
+abbrev pub NoneUnreadable : List Placed → Type 0
+NoneUnreadable ps = (p : Placed) (n : ℕ) → List·Memᴰ p ps → p .role ≡ unreadable n → ⊥
+
+pub record FirstUnreadable (ps : List Placed) (number place : ℕ) : Type 0 where
+  pub front : List Placed
+  pub at : Placed
+  pub back : List Placed
+  pub cut : ps ≡ front ++ (at ∷ back)
+  pub unread : at .role ≡ unreadable number
+  pub stands : at .start ≡ place
+  pub before : NoneUnreadable front
+
+-- one record more in front, which can be read
+none-behind : (p : Placed) (ps : List Placed) → ((n : ℕ) → p .role ≡ unreadable n → ⊥) → NoneUnreadable ps → NoneUnreadable (p ∷ ps)
+none-behind p ps here rest q n m e = ⊎-elim (λ h. here n (ap (λ (x : Placed). x .role) (sym h) ∙ e)) (λ k. rest q n k e) (List·Memᴰ·cases-cons m)
+
+first-behind : (p : Placed) (ps : List Placed) (n place : ℕ) → ((m : ℕ) → p .role ≡ unreadable m → ⊥) → FirstUnreadable ps n place → FirstUnreadable (p ∷ ps) n place
+first-behind p ps n place here f =
+    record { front = p ∷ f .front; at = f .at; back = f .back; cut = rw (f .cut); unread = f .unread; stands = f .stands; before = none-behind p (f .front) here (f .before) }
+
+-- how the reading of `vr` and `vd` records ends, as facts
+abbrev pub Ends : List Placed → Ending → Type 0
+Ends ps whole = NoneUnreadable ps
+Ends ps (refused n place) = FirstUnreadable ps n place
+
+pub readability-ends : (ps : List Placed) → Ends ps (readability ps)
+unfolding readability
+readability-ends [] = λ p n m e. List·Memᴰ·not-nil m
+readability-ends (p ∷ ps) = go (p .role) refl (readability ps) (readability-ends ps)
+  where
+    behind : ((n : ℕ) → p .role ≡ unreadable n → ⊥) → (e : Ending) → Ends ps e → Ends (p ∷ ps) e
+    behind here whole rest = none-behind p ps here rest
+    behind here (refused n place) rest = first-behind p ps n place here rest
+
+    go : (r : Role) → p .role ≡ r → (e : Ending) → Ends ps e → Ends (p ∷ ps) (unreadableFirst p r e)
+    go (version i f) q e rest = behind (λ n h. absurd-numbers (cc)) e rest
+    go (deletion i) q e rest = behind (λ n h. absurd-numbers (cc)) e rest
+    go other q e rest = behind (λ n h. absurd-numbers (cc)) e rest
+    go (unreadable n) q e rest =
+        record { front = []; at = p; back = ps; cut = refl; unread = q; stands = refl; before = λ x m k h. List·Memᴰ·not-nil k }
+
+readable-front : (front rest : List Placed) → NoneUnreadable front → readability (front ++ rest) ≡ readability rest
+unfolding readability
+readable-front [] rest h = refl
+readable-front (p ∷ front) rest h = go (p .role) refl ∙ readable-front front rest (λ q n m e. h q n (List·Memᴰ·tail m) e)
+  where
+    go : (r : Role) → p .role ≡ r → unreadableFirst p r (readability (front ++ rest)) ≡ readability (front ++ rest)
+    go (version i f) e = refl
+    go (deletion i) e = refl
+    go other e = refl
+    go (unreadable n) e = absurd (h p n (List·Memᴰ·head refl) e)
+
+pub ends-readability : (ps : List Placed) (e : Ending) → Ends ps e → readability ps ≡ e
+unfolding readability
+ends-readability ps whole h = ap readability (sym (append-nil ps)) ∙ readable-front ps [] h
+ends-readability ps (refused n place) f = ap readability (f .cut) ∙ readable-front (f .front) (f .at ∷ f .back) (f .before) ∙ rw (f .unread, f .stands)
+
+-- ---- the lookup: every answer is given exactly when document 01 says so
+
+module _ (limit : ℕ) (s bucket object : List ℕ) where
+  abbrev ps : List Placed
+  ps = map (placed limit s) (reading limit s .entries)
+
+  -- none of the refusals applies
+  pub record Answers : Type 0 where
+    pub name : isName bucket object ≡ true
+    pub accepted : reading limit s .ending ≡ whole
+    pub readable : NoneUnreadable ps
+
+  abbrev pub Exactly : Answer → Type 0
+  Exactly (alone n) = (isName bucket object ≡ false) × (n ≡ 20)
+  Exactly (refusedAt n place) = (isName bucket object ≡ true) × ((reading limit s .ending ≡ refused n place) ⊎ ((reading limit s .ending ≡ whole) × FirstUnreadable ps n place))
+  Exactly nothing = Answers × ((p : Placed) (v : Version) → List·Memᴰ p ps → Live ps bucket object p v → ⊥)
+  Exactly (found v) = Answers × IsCurrent ps bucket object v
+
+  lookup-is : Exactly (lookup limit s bucket object)
+  unfolding lookup answerIn
+  lookup-is = go (isName bucket object) refl (reading limit s .ending) refl (readability ps) (readability-ends ps) (current ps bucket object) refl
+    where
+      go : (t : Bool) → isName bucket object ≡ t → (e : Ending) → reading limit s .ending ≡ e → (f : Ending) → Ends ps f → (c : Option Version) → current ps bucket object ≡ c → Exactly (cond t (unlessRefused e (unlessRefused f (answerOf c))) (alone 20))
+      go true n whole a whole r none c = (record { name = n; accepted = a; readable = r }, none-exactly ps bucket object .0 c)
+      go true n whole a whole r (some v) c = (record { name = n; accepted = a; readable = r }, current-is ps bucket object v c)
+      go true n whole a (refused m place) r d c = (n, inr (a, r))
+      go true n (refused m place) a f r d c = (n, inl a)
+      go false n e a f r d c = (n, refl)
+
+  is-lookup : (a : Answer) → Exactly a → lookup limit s bucket object ≡ a
+  unfolding lookup answerIn
+  is-lookup (alone n) h = rw (h .0, h .1)
+  is-lookup (refusedAt n place) h = rw (h .0) (⊎-elim (λ e. rw e) (λ e. rw (e .0, ends-readability ps (refused n place) (e .1))) (h .1))
+  is-lookup nothing h = rw (h .0 .name, h .0 .accepted, ends-readability ps whole (h .0 .readable), none-exactly ps bucket object .1 (h .1))
+  is-lookup (found v) h = rw (h .0 .name, h .0 .accepted, ends-readability ps whole (h .0 .readable), is-current ps bucket object v (h .1))
+
+  pub lookup-exactly : (a : Answer) → lookup limit s bucket object ≡ a ↔ Exactly a
+  lookup-exactly a = (λ e. subst Exactly e lookup-is, is-lookup a)

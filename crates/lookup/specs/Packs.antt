@@ -1,9 +1,10 @@
 -- A pack as a list of records: the lookup's answer depends on their tags and values and on their order; where they stand shows only in the place told.
 use Prim.Native.Nat.{ℕ, _+_, _≤_}
 use mathlib.Core.Bool.{Bool, true, false, cond}
-use mathlib.Core.List.{List, [], _∷_, map, List·Memᴰ, List·Memᴰ·head, List·Memᴰ·tail}
+use mathlib.Core.List.{List, [], _∷_, map, List·Memᴰ, List·Memᴰ·head, List·Memᴰ·tail, List·Memᴰ·not-nil, List·Memᴰ·cases-cons}
+use mathlib.Core.Logic.{⊎-elim}
 use mathlib.Core.Option.{Option, none, some}
-use mathlib.Core.Path.{_≡_, refl, sym, ap, _∙_}
+use mathlib.Core.Path.{_≡_, refl, sym, ap, subst, _∙_}
 use lib.ListN.{length, take, drop}
 use lib.Seq.{drop-at, drop-drop}
 use Rattle.tlv.specs.Layout.{Record, layout, layouts}
@@ -17,7 +18,7 @@ use Rattle.records.specs.Record as records
 use Rattle.records.specs.Record.{readRecord, isRead, canBeRead}
 use Rattle.records.specs.Laws.{value-there}
 use Rattle.lookup.specs.Current.{Role, version, deletion, other, unreadable, roleBy, roleOf, isLookedAt, role, Placed, placedBy, placed, Version, versionBy, versionOf, filtered, better, best, isDeleted, isLive, current, Answer, nothing, found, refusedAt, alone, unreadableFirst, readability, unlessRefused, answerOf, answerIn, isName, lookup}
-use Rattle.lookup.specs.Best.{no-version, same-version, ulidOf, best-same}
+use Rattle.lookup.specs.Best.{clash, no-version, same-version, ulidOf, best-same}
 
 -- ---- records that stand end to end, from a place on
 
@@ -70,6 +71,32 @@ all-readable limit at [] h = refl
 all-readable limit at (r ∷ rs) h =
     read-first limit (r .tag) (r .value) (placedBy limit at (r .tag) (r .value)) (readability (standing limit (at + length (layout r)) rs)) (h r (List·Memᴰ·head refl))
     ∙ all-readable limit (at + length (layout r)) rs (λ s m. h s (List·Memᴰ·tail m))
+
+-- and only then; so such packs are those in which no lookup of a name is refused
+pub record FirstRead (limit tag : ℕ) (value : List ℕ) (next : Ending) : Type 0 where
+  pub reads : isLookedAt tag ≡ true → canBeRead limit tag value ≡ true
+  pub rest : next ≡ whole
+
+first-read : (limit tag : ℕ) (value : List ℕ) (p : Placed) (next : Ending) → unreadableFirst p (role limit tag value) next ≡ whole → FirstRead limit tag value next
+unfolding role canBeRead
+first-read limit tag value p next e = go (isLookedAt tag) refl (readRecord limit tag value) refl e
+  where
+    by : (i : Identity) (k : records.Kind) → unreadableFirst p (roleBy i k) next ≡ whole → next ≡ whole
+    by i records.block h = h
+    by i (records.version f) h = h
+    by i (records.versionDelete d) h = h
+
+    go : (t : Bool) → isLookedAt tag ≡ t → (a : primary.Answer records.Record) → readRecord limit tag value ≡ a → unreadableFirst p (cond t (roleOf a) other) next ≡ whole → FirstRead limit tag value next
+    go true q (primary.read r) f h = record { reads = λ n. ap isRead f; rest = by (r .contents .identifier) (r .contents .kind) h }
+    go true q (primary.refused n) f h = absurd-numbers (cc)
+    go false q a f h = record { reads = λ n. clash n q; rest = h }
+
+readable-all : (limit at : ℕ) (rs : List Record) → readability (standing limit at rs) ≡ whole → AllRead limit rs
+unfolding readability standing
+readable-all limit at [] e r m = absurd (List·Memᴰ·not-nil m)
+readable-all limit at (s ∷ rs) e r m =
+    let h = first-read limit (s .tag) (s .value) (placedBy limit at (s .tag) (s .value)) (readability (standing limit (at + length (layout s)) rs)) e in
+    ⊎-elim (λ q. subst (λ x. isLookedAt (x .tag) ≡ true → canBeRead limit (x .tag) (x .value) ≡ true) (sym q) (h .reads)) (λ n. readable-all limit (at + length (layout s)) rs (h .rest) r n) (List·Memᴰ·cases-cons m)
 
 -- ---- answers compared: where the record stands is not
 
