@@ -48,9 +48,12 @@ pub record Placed : Type 0 where
 abbrev pub placedBy : ℕ → ℕ → ℕ → List ℕ → Placed
 placedBy limit start tag value = record { start = start; role = role limit tag value; value = value }
 
--- the record of an entry; its value follows the 32 bytes of its header
+-- the value of an entry's record follows the 32 bytes of its header
+abbrev pub valueOf : List ℕ → Entry → List ℕ
+valueOf s e = take (e .length) (drop 32 (drop (e .start) s))
+
 abbrev pub placed : ℕ → List ℕ → Entry → Placed
-placed limit s e = placedBy limit (e .start) (e .tag) (take (e .length) (drop 32 (drop (e .start) s)))
+placed limit s e = placedBy limit (e .start) (e .tag) (valueOf s e)
 
 -- ---- what a `vr` tells, and the better of two
 

@@ -1,7 +1,7 @@
 -- Demand 3, deletion: a `vd` at the end of a pack answers as the pack from which the versions it names are taken out.
 use Prim.Native.Nat.{ℕ, _+_, _≤_}
 use mathlib.Core.Bool.{Bool, true, false, cond, not, _&&_, _||_, true≢false, or-true, or-false, and-false}
-use mathlib.Core.List.{List, [], _∷_, _++_, map, List·Memᴰ, List·Memᴰ·head, List·Memᴰ·tail, List·Memᴰ·not-nil, List·Memᴰ·cases-cons, List·Memᴰ·append-cases}
+use mathlib.Core.List.{List, [], _∷_, _++_, map, append-nil, append-assoc, List·Memᴰ, List·Memᴰ·head, List·Memᴰ·tail, List·Memᴰ·not-nil, List·Memᴰ·cases-cons, List·Memᴰ·append-cases}
 use mathlib.Core.Logic.{_⊎_, inl, inr, ⊎-elim}
 use mathlib.Core.Option.{Option, none, some}
 use mathlib.Core.Path.{_≡_, refl, sym, ap, subst, _∙_}
@@ -68,6 +68,11 @@ module _ (limit : ℕ) (i : Identity) where
       }
 
 -- ---- one record more at the end
+
+pub layouts-with : (rs : List Record) (d : Record) → layouts (rs ++ (d ∷ [])) ≡ layouts rs ++ layout d
+unfolding layouts
+layouts-with [] d = append-nil (layout d)
+layouts-with (r ∷ rs) d = rw (layouts-with rs d) (sym (append-assoc (layout r) (layouts rs) (layout d)))
 
 all-fit-with : (rs : List Record) (d : Record) → AllFit rs → Fits d → AllFit (rs ++ (d ∷ []))
 all-fit-with [] d a f = (f, tt)

@@ -1,23 +1,27 @@
 -- A pack as a list of records: the lookup's answer depends on their tags and values and on their order; where they stand shows only in the place told.
 use Prim.Native.Nat.{ℕ, _+_, _≤_}
 use mathlib.Core.Bool.{Bool, true, false, cond}
-use mathlib.Core.List.{List, [], _∷_, map, List·Memᴰ, List·Memᴰ·head, List·Memᴰ·tail, List·Memᴰ·not-nil, List·Memᴰ·cases-cons}
-use mathlib.Core.Logic.{⊎-elim}
+use mathlib.Core.List.{List, [], _∷_, _++_, map, List·Memᴰ, List·Memᴰ·head, List·Memᴰ·tail, Memᴰ·map, Memᴰ·of-map}
+use mathlib.Core.Logic.{_↔_}
 use mathlib.Core.Option.{Option, none, some}
 use mathlib.Core.Path.{_≡_, refl, sym, ap, subst, _∙_}
+use borrow.Author.Tests.{ltb-false}
+use lib.Dec.{ltb}
 use lib.ListN.{length, take, drop}
 use lib.Seq.{drop-at, drop-drop}
+use Rattle.endian.specs.Bytes.{AllBytes}
 use Rattle.tlv.specs.Layout.{Record, layout, layouts}
-use Rattle.pack.specs.Reading.{Ending, whole}
-use Rattle.pack.specs.Acceptance.{AllFit, entriesOf, layouts-accepted}
+use Rattle.pack.specs.Reading.{Reading, Ending, whole, refused, reading, records}
+use Rattle.pack.specs.declared.Entry.{Entry}
+use Rattle.pack.specs.Acceptance.{AllFit, entryOf, entriesOf, layouts-accepted, accepted-exactly}
 use Rattle.msgpack.specs.HeadLaws.{absurd-numbers}
 use Rattle.identifier.specs.Texts.{less}
 use Rattle.identifier.specs.Identity.{Identity}
 use Rattle.primary.specs.Parts as primary
-use Rattle.records.specs.Record as records
+use Rattle.records.specs.Record as record-specs
 use Rattle.records.specs.Record.{readRecord, isRead, canBeRead}
 use Rattle.records.specs.Laws.{value-there}
-use Rattle.lookup.specs.Current.{Role, version, deletion, other, unreadable, roleBy, roleOf, isLookedAt, role, Placed, placedBy, placed, Version, versionBy, versionOf, filtered, better, best, isDeleted, isLive, current, Answer, nothing, found, refusedAt, alone, unreadableFirst, readability, unlessRefused, answerOf, answerIn, isName, lookup}
+use Rattle.lookup.specs.Current.{Role, version, deletion, other, unreadable, roleBy, roleOf, isLookedAt, role, Placed, placedBy, valueOf, placed, Version, versionBy, versionOf, filtered, better, best, isDeleted, isLive, current, Answer, nothing, found, refusedAt, alone, unreadableFirst, readability, unlessRefused, answerOf, answerIn, isName, lookup}
 use Rattle.lookup.specs.Best.{clash, no-version, same-version, ulidOf, best-same}
 
 -- ---- records that stand end to end, from a place on
@@ -26,13 +30,16 @@ unfoldable pub standing : ℕ → ℕ → List Record → List Placed
 standing limit at [] = []
 standing limit at (r ∷ rs) = placedBy limit at (r .tag) (r .value) ∷ standing limit (at + length (layout r)) rs
 
+value-standing : (at : ℕ) (r : Record) (rs : List Record) (s : List ℕ) → drop at s ≡ layout r ++ layouts rs → valueOf s (entryOf at r) ≡ r .value
+value-standing at r rs s e = ap (λ t. take (length (r .value)) (drop 32 t)) e ∙ value-there r (layouts rs)
+
+rest-standing : (at : ℕ) (r : Record) (rs : List Record) (s : List ℕ) → drop at s ≡ layout r ++ layouts rs → drop (at + length (layout r)) s ≡ layouts rs
+rest-standing at r rs s e = sym (drop-drop (length (layout r)) at s) ∙ ap (drop (length (layout r))) e ∙ drop-at (layout r) (layouts rs) (length (layout r)) refl
+
 placed-standing : (limit at : ℕ) (rs : List Record) (s : List ℕ) → drop at s ≡ layouts rs → map (placed limit s) (entriesOf at rs) ≡ standing limit at rs
 unfolding layouts entriesOf standing
 placed-standing limit at [] s e = refl
-placed-standing limit at (r ∷ rs) s e =
-    let value : take (length (r .value)) (drop 32 (drop at s)) ≡ r .value = ap (λ t. take (length (r .value)) (drop 32 t)) e ∙ value-there r (layouts rs) in
-    let rest : drop (at + length (layout r)) s ≡ layouts rs = sym (drop-drop (length (layout r)) at s) ∙ ap (drop (length (layout r))) e ∙ drop-at (layout r) (layouts rs) (length (layout r)) refl in
-    rw (value, placed-standing limit (at + length (layout r)) rs s rest)
+placed-standing limit at (r ∷ rs) s e = rw (value-standing at r rs s e, placed-standing limit (at + length (layout r)) rs s (rest-standing at r rs s e))
 
 pub lookup-layouts : (limit : ℕ) (rs : List Record) (bucket object : List ℕ) → AllFit rs → length (layouts rs) ≤ limit → isName bucket object ≡ true
     → lookup limit (layouts rs) bucket object ≡ answerIn (standing limit 0 rs) bucket object
@@ -55,12 +62,12 @@ read-first : (limit tag : ℕ) (value : List ℕ) (p : Placed) (next : Ending) �
 unfolding role canBeRead
 read-first limit tag value p next h = go (isLookedAt tag) (readRecord limit tag value) h
   where
-    by : (i : Identity) (k : records.Kind) → unreadableFirst p (roleBy i k) next ≡ next
-    by i records.block = refl
-    by i (records.version f) = refl
-    by i (records.versionDelete d) = refl
+    by : (i : Identity) (k : record-specs.Kind) → unreadableFirst p (roleBy i k) next ≡ next
+    by i record-specs.block = refl
+    by i (record-specs.version f) = refl
+    by i (record-specs.versionDelete d) = refl
 
-    go : (t : Bool) (a : primary.Answer records.Record) → (t ≡ true → isRead a ≡ true) → unreadableFirst p (cond t (roleOf a) other) next ≡ next
+    go : (t : Bool) (a : primary.Answer record-specs.Record) → (t ≡ true → isRead a ≡ true) → unreadableFirst p (cond t (roleOf a) other) next ≡ next
     go true (primary.read r) h = by (r .contents .identifier) (r .contents .kind)
     go true (primary.refused n) h = let e = h refl in absurd-numbers (cc)
     go false a h = refl
@@ -72,31 +79,68 @@ all-readable limit at (r ∷ rs) h =
     read-first limit (r .tag) (r .value) (placedBy limit at (r .tag) (r .value)) (readability (standing limit (at + length (layout r)) rs)) (h r (List·Memᴰ·head refl))
     ∙ all-readable limit (at + length (layout r)) rs (λ s m. h s (List·Memᴰ·tail m))
 
--- and only then; so such packs are those in which no lookup of a name is refused
-pub record FirstRead (limit tag : ℕ) (value : List ℕ) (next : Ending) : Type 0 where
-  pub reads : isLookedAt tag ≡ true → canBeRead limit tag value ≡ true
-  pub rest : next ≡ whole
+-- ---- the same said of a pack's bytes
 
-first-read : (limit tag : ℕ) (value : List ℕ) (p : Placed) (next : Ending) → unreadableFirst p (role limit tag value) next ≡ whole → FirstRead limit tag value next
-unfolding role canBeRead
-first-read limit tag value p next e = go (isLookedAt tag) refl (readRecord limit tag value) refl e
+pub record ReadablePack (limit : ℕ) (s : List ℕ) : Type 0 where
+  pub accepted : reading limit s .ending ≡ whole
+  pub all-read : (e : Entry) → List·Memᴰ e (reading limit s .entries) → isLookedAt (e .tag) ≡ true → canBeRead limit (e .tag) (valueOf s e) ≡ true
+
+accepted-within : (limit : ℕ) (s : List ℕ) → reading limit s .ending ≡ whole → length s ≤ limit
+unfolding reading
+accepted-within limit s e = go (ltb limit (length s)) refl e
   where
-    by : (i : Identity) (k : records.Kind) → unreadableFirst p (roleBy i k) next ≡ whole → next ≡ whole
-    by i records.block h = h
-    by i (records.version f) h = h
-    by i (records.versionDelete d) h = h
+    go : (t : Bool) → ltb limit (length s) ≡ t → cond t (record { entries = []; ending = refused 1 0 }) (records 0 0 s) .ending ≡ whole → length s ≤ limit
+    go true p h = absurd-numbers (cc)
+    go false p h = ltb-false limit (length s) p
 
-    go : (t : Bool) → isLookedAt tag ≡ t → (a : primary.Answer records.Record) → readRecord limit tag value ≡ a → unreadableFirst p (cond t (roleOf a) other) next ≡ whole → FirstRead limit tag value next
-    go true q (primary.read r) f h = record { reads = λ n. ap isRead f; rest = by (r .contents .identifier) (r .contents .kind) h }
-    go true q (primary.refused n) f h = absurd-numbers (cc)
-    go false q a f h = record { reads = λ n. clash n q; rest = h }
+-- tag and value, by an entry and by a record
+abbrev ofEntry : List ℕ → Entry → ℕ × List ℕ
+ofEntry s e = (e .tag, valueOf s e)
 
-readable-all : (limit at : ℕ) (rs : List Record) → readability (standing limit at rs) ≡ whole → AllRead limit rs
-unfolding readability standing
-readable-all limit at [] e r m = absurd (List·Memᴰ·not-nil m)
-readable-all limit at (s ∷ rs) e r m =
-    let h = first-read limit (s .tag) (s .value) (placedBy limit at (s .tag) (s .value)) (readability (standing limit (at + length (layout s)) rs)) e in
-    ⊎-elim (λ q. subst (λ x. isLookedAt (x .tag) ≡ true → canBeRead limit (x .tag) (x .value) ≡ true) (sym q) (h .reads)) (λ n. readable-all limit (at + length (layout s)) rs (h .rest) r n) (List·Memᴰ·cases-cons m)
+abbrev ofRecord : Record → ℕ × List ℕ
+ofRecord r = (r .tag, r .value)
+
+tags-and-values : (at : ℕ) (rs : List Record) (s : List ℕ) → drop at s ≡ layouts rs → map (ofEntry s) (entriesOf at rs) ≡ map ofRecord rs
+unfolding layouts entriesOf
+tags-and-values at [] s e = refl
+tags-and-values at (r ∷ rs) s e = rw (value-standing at r rs s e, tags-and-values (at + length (layout r)) rs s (rest-standing at r rs s e))
+
+abbrev Reads : ℕ → ℕ × List ℕ → Type 0
+Reads limit x = isLookedAt (x .0) ≡ true → canBeRead limit (x .0) (x .1) ≡ true
+
+module _ (limit : ℕ) (s : List ℕ) where
+  -- the pack of such records
+  pub readable-pack : (rs : List Record) → Readable limit rs → layouts rs ≡ s → ReadablePack limit s
+  readable-pack rs a is =
+      let same : map ofRecord rs ≡ map (ofEntry s) (entriesOf 0 rs) = sym (tags-and-values 0 rs s (sym is)) in
+      let read = layouts-accepted limit s (subst (λ t. length t ≤ limit) is (a .within)) rs (a .fit) is in
+      record {
+        accepted = ap (λ (r : Reading). r .ending) read;
+        all-read = λ e m.
+            let o = Memᴰ·of-map ofRecord rs (subst (List·Memᴰ (ofEntry s e)) (sym same) (Memᴰ·map (ofEntry s) (subst (λ (r : Reading). List·Memᴰ e (r .entries)) read m))) in
+            subst (Reads limit) (o .2) (a .all-read (o .0) (o .1));
+      }
+
+  -- and every such pack is one of those
+  pub pack-readable : AllBytes s → ReadablePack limit s → (rs : List Record) × Readable limit rs × (layouts rs ≡ s)
+  pack-readable bytes a =
+      let within = accepted-within limit s (a .accepted) in
+      let l = accepted-exactly limit s within bytes .0 (a .accepted) in
+      let read = layouts-accepted limit s within (l .0) (l .1) (l .2) in
+      let same = tags-and-values 0 (l .0) s (sym (l .2)) in (
+        l .0,
+        record {
+          fit = l .1;
+          within = subst (λ t. length t ≤ limit) (sym (l .2)) within;
+          all-read = λ r m.
+              let o = Memᴰ·of-map (ofEntry s) (entriesOf 0 (l .0)) (subst (List·Memᴰ (ofRecord r)) (sym same) (Memᴰ·map ofRecord m)) in
+              subst (Reads limit) (o .2) (a .all-read (o .0) (subst (λ (r : Reading). List·Memᴰ (o .0) (r .entries)) (sym read) (o .1)));
+        },
+        l .2,
+      )
+
+  pub readable-exactly : AllBytes s → ReadablePack limit s ↔ ((rs : List Record) × Readable limit rs × (layouts rs ≡ s))
+  readable-exactly bytes = (pack-readable bytes, λ a. readable-pack (a .0) (a .1) (a .2))
 
 -- ---- answers compared: where the record stands is not
 
