@@ -1,10 +1,10 @@
 -- Demand 3, deletion: a `vd` at the end of a pack answers as the pack from which the versions it names are taken out.
-use Prim.Native.Nat.{ℕ, _+_, _≤_}
-use mathlib.Core.Bool.{Bool, true, false, cond, not, _&&_, _||_, true≢false, or-true, or-false, and-false}
+use Prim.Native.Nat.{ℕ, _≤_}
+use mathlib.Core.Bool.{Bool, true, false, cond, _||_, true≢false, or-true, or-false, and-false}
 use mathlib.Core.List.{List, [], _∷_, _++_, map, append-nil, append-assoc, List·Memᴰ, List·Memᴰ·head, List·Memᴰ·tail, List·Memᴰ·not-nil, List·Memᴰ·cases-cons, List·Memᴰ·append-cases}
-use mathlib.Core.Logic.{_⊎_, inl, inr, ⊎-elim}
-use mathlib.Core.Option.{Option, none, some}
-use mathlib.Core.Path.{_≡_, refl, sym, ap, subst, _∙_}
+use mathlib.Core.Logic.{⊎-elim}
+use mathlib.Core.Option.{none, some}
+use mathlib.Core.Path.{_≡_, refl, sym, ap, _∙_}
 use native.Mathlib.Omega.{arith}
 use lib.ListN.{length, length-append}
 use Rattle.tlv.specs.Layout.{Record, Fits, layout, layouts}
@@ -16,7 +16,7 @@ use Rattle.records.specs.Record as records
 use Rattle.records.specs.Record.{versionDeleteTag, readRecord, isRead, canBeRead}
 use Rattle.lookup.specs.Current.{Role, version, deletion, other, unreadable, role, versionBy, versionOf, filtered, better, best, deletes, isDeleted, isLive, current, isName, lookup}
 use Rattle.lookup.specs.Roles.{delete-role}
-use Rattle.lookup.specs.Packs.{AllRead, Readable, SameAnswer, unplaced, same-answers}
+use Rattle.lookup.specs.Packs.{Readable, SameAnswer, unplaced, same-answers}
 
 -- ---- all `vr` records of one identifier, taken out
 

@@ -1,5 +1,5 @@
 -- The lookup on packs written out, as one table; antt computes every answer.
-use Prim.Native.Nat.{ℕ, zero, suc, _+_}
+use Prim.Native.Nat.{ℕ, suc, _+_}
 use mathlib.Core.Bool.{Bool, true, false, cond}
 use mathlib.Core.List.{List, [], _∷_, _++_, map}
 use mathlib.Core.Path.{_≡_, refl, ap, subst₂}
@@ -22,12 +22,12 @@ use Rattle.value.specs.Header as value-header
 use Rattle.value.specs.Reading as value
 use Rattle.identifier.specs.Texts.{member, all, less}
 use Rattle.identifier.specs.Ulid.{alphabet, isCharacter, isUlid}
-use Rattle.identifier.specs.Identity.{sized, isBucket, isObject, Identity, identity, isValid, identityOf, sameIdentity}
+use Rattle.identifier.specs.Identity.{sized, isBucket, isObject, identity, isValid, identityOf, sameIdentity}
 use Rattle.identifier.specs.Held.{hasName}
 use Rattle.primary.specs.Parts as primary
 use Rattle.primary.specs.Parts.{fills, textAt, textUnder, textsUnder, deletedUnder, ulidOf}
 use Rattle.records.specs.Record.{blockTag, versionTag, versionDeleteTag, isKnown, contents, toldRows, readRecord}
-use Rattle.lookup.specs.Current.{isLookedAt, role, Version, versionOf, filtered, better, best, deletes, isDeleted, isLive, current, Answer, nothing, found, refusedAt, alone, readability, answerIn, isName, lookup}
+use Rattle.lookup.specs.Current.{isLookedAt, role, versionOf, filtered, better, best, deletes, isDeleted, isLive, current, Answer, nothing, found, refusedAt, alone, readability, answerIn, isName, lookup}
 use Rattle.lookup.specs.Packs.{SameAnswer}
 use Rattle.lookup.specs.Order.{howOften, SameRecords}
 

@@ -11,9 +11,9 @@ use Rattle.tlv.specs.Layout.{Record, Fits, layout, layouts}
 use Rattle.tlv.specs.Stands.{recordOf, record-of-layout}
 use Rattle.pack.specs.Acceptance.{AllFit}
 use Rattle.identifier.specs.Identity.{Identity}
-use Rattle.lookup.specs.Current.{Role, version, deletion, other, unreadable, role, Placed, placedBy, Version, versionBy, versionOf, current, isName, lookup}
+use Rattle.lookup.specs.Current.{version, role, Placed, placedBy, Version, versionOf, current, isName, lookup}
 use Rattle.lookup.specs.Roles.{version-told, version-role}
-use Rattle.lookup.specs.Best.{clash, no-version, same-version}
+use Rattle.lookup.specs.Best.{clash, same-version}
 use Rattle.lookup.specs.Exactly.{Live, IsCurrent, current-member, same-name, current-is, none-exactly}
 use Rattle.lookup.specs.Packs.{Readable, SameAnswer, unplaced, same-answers}
 

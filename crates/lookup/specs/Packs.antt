@@ -21,8 +21,8 @@ use Rattle.primary.specs.Parts as primary
 use Rattle.records.specs.Record as record-specs
 use Rattle.records.specs.Record.{readRecord, isRead, canBeRead}
 use Rattle.records.specs.Laws.{value-there}
-use Rattle.lookup.specs.Current.{Role, version, deletion, other, unreadable, roleBy, roleOf, isLookedAt, role, Placed, placedBy, valueOf, placed, Version, versionBy, versionOf, filtered, better, best, isDeleted, isLive, current, Answer, nothing, found, refusedAt, alone, unreadableFirst, readability, unlessRefused, answerOf, answerIn, isName, lookup}
-use Rattle.lookup.specs.Best.{clash, no-version, same-version, ulidOf, best-same}
+use Rattle.lookup.specs.Current.{Role, version, deletion, other, unreadable, roleBy, roleOf, isLookedAt, role, Placed, placedBy, valueOf, placed, Version, versionBy, versionOf, filtered, better, best, isDeleted, isLive, current, Answer, nothing, found, refusedAt, alone, unreadableFirst, readability, answerOf, answerIn, isName, lookup}
+use Rattle.lookup.specs.Best.{no-version, same-version, ulidOf, best-same}
 
 -- ---- records that stand end to end, from a place on
 

@@ -2,7 +2,7 @@
 use Prim.Native.Nat.{ℕ, _+_, _≤_, _<_}
 use mathlib.Core.Bool.{Bool, true, false, cond, not, _&&_, _||_, true≢false, and-true, and-false}
 use mathlib.Core.List.{List, [], _∷_, List·Memᴰ, List·Memᴰ·not-nil, List·Memᴰ·cases-cons, Memᴰ·of-map}
-use mathlib.Core.Logic.{_⊎_, inl, inr, ⊎-elim}
+use mathlib.Core.Logic.{⊎-elim}
 use mathlib.Core.Option.{Option, none, some}
 use mathlib.Core.Path.{_≡_, refl, sym, ap, subst, _∙_}
 use native.Mathlib.Omega.{arith}
@@ -18,7 +18,7 @@ use Rattle.identifier.specs.Held.{hasName}
 use Rattle.lookup.specs.Current.{Placed, placed, Version, versionOf, filtered, best, isDeleted, isLive, current}
 use Rattle.lookup.specs.Roles.{version-told, version-role}
 use Rattle.lookup.specs.Walk.{placedFrom}
-use Rattle.lookup.specs.Best.{either, clash, not-so, ulidOf, same-version, Passes, filtered-some, some-filtered, Best, best-member, best-greatest, best-same, best-none, best-found, found-best, none-best}
+use Rattle.lookup.specs.Best.{either, clash, not-so, ulidOf, Passes, Best, best-member, best-greatest, best-same, best-none, best-found, found-best, none-best}
 use Rattle.lookup.specs.Exactly.{same-name, has-name}
 
 -- below a bound: of the versions of this name, deleted or not, the best; and the current one

@@ -2,15 +2,14 @@
 use Prim.Native.Nat.{ℕ, _+_, _≤_, _<_}
 use mathlib.Core.Bool.{Bool, true, false, cond}
 use mathlib.Core.List.{List, [], _∷_, map}
-use mathlib.Core.Path.{_≡_, refl, sym, ap, subst, _∙_}
+use mathlib.Core.Path.{_≡_, refl, sym, ap, _∙_}
 use native.Mathlib.Omega.{arith}
 use lib.Dec.{ltb}
 use lib.ListN.{length, drop, length-drop}
 use Rattle.tlv.specs.Found.{Found, end, found, fault, step, step-none, step-end}
 use Rattle.tlv.specs.Stands.{step-stands}
 use Rattle.tlv.specs.Passing.{passAt, pass-found}
-use Rattle.tlv.specs.declared.RecordHeader.{RecordHeader}
-use Rattle.pack.specs.Reading.{Reading, Ending, whole, refused, records, reading, entryAt, records-end, records-fault, records-on}
+use Rattle.pack.specs.Reading.{Reading, whole, refused, records, reading, records-end, records-fault, records-on}
 use Rattle.msgpack.specs.HeadLaws.{absurd-numbers}
 use Rattle.records.specs.Record.{valueAt}
 use Rattle.lookup.specs.Current.{Placed, placedBy, placed, answerIn, isName, lookup}
