@@ -2,7 +2,7 @@
 use Prim.Native.Nat.{ℕ, suc, _+_}
 use mathlib.Core.Bool.{Bool, true, false, cond}
 use mathlib.Core.List.{List, [], _∷_, _++_, map}
-use mathlib.Core.Path.{_≡_, refl, ap, subst₂}
+use mathlib.Core.Path.{_≡_, refl, ap}
 use native.Mathlib.Omega.{arith}
 use lib.ListN.{length, getD, replicate}
 use Rattle.endian.specs.Bytes.{sameBytes}
@@ -27,8 +27,7 @@ use Rattle.identifier.specs.Held.{hasName}
 use Rattle.primary.specs.Parts as primary
 use Rattle.primary.specs.Parts.{fills, textAt, textUnder, textsUnder, deletedUnder, ulidOf}
 use Rattle.records.specs.Record.{blockTag, versionTag, versionDeleteTag, isKnown, contents, toldRows, readRecord}
-use Rattle.lookup.specs.Current.{isLookedAt, role, versionOf, filtered, better, best, deletes, isDeleted, isLive, current, Answer, nothing, found, refusedAt, alone, readability, answerIn, isName, lookup}
-use Rattle.lookup.specs.Packs.{SameAnswer}
+use Rattle.lookup.specs.Current.{isLookedAt, role, Version, versionOf, filtered, better, best, deletes, isDeleted, isLive, current, Answer, nothing, found, refusedAt, alone, readability, answerIn, isName, lookup}
 use Rattle.lookup.specs.Order.{howOften, SameRecords}
 
 -- ---- records in their shortest forms
@@ -98,8 +97,11 @@ pub record Row : Type 0 where
   pub answer : Answer
 
 -- what is told of a version of herd/scan
+abbrev told : ℕ → Bool → List ℕ → ℕ → Version
+told x deleteFlag value start = record { identifier = identity (ulid x) herd scan; deleteFlag = deleteFlag; value = value; start = start }
+
 abbrev is : ℕ → Bool → List ℕ → ℕ → Answer
-is x deleteFlag value start = found (record { identifier = identity (ulid x) herd scan; deleteFlag = deleteFlag; value = value; start = start })
+is x deleteFlag value start = found (told x deleteFlag value start)
 
 abbrev asks : List ℕ → List ℕ → List ℕ → Answer → Row
 asks pack bucket object answer = record { pack = pack; bucket = bucket; object = object; answer = answer }
@@ -162,16 +164,29 @@ swapped a b bytes = go (sameBytes bytes (layout a)) (sameBytes bytes (layout b))
     go false true = refl
     go false false = refl
 
+pub record Differ (rs ts : List Record) (bucket object : List ℕ) : Type 0 where
+  pub same : SameRecords rs ts
+  pub v : Version
+  pub w : Version
+  pub first : lookup packLimit (layouts rs) bucket object ≡ found v
+  pub second : lookup packLimit (layouts ts) bucket object ≡ found w
+  pub values : v .value ≡ w .value → ⊥
+
 -- the fifth and the sixth row
-pub one-value-is-needed : (rs ts : List Record) × SameRecords rs ts × (SameAnswer (lookup packLimit (layouts rs) herd scan) (lookup packLimit (layouts ts) herd scan) → ⊥)
+pub one-value-is-needed : (rs ts : List Record) × Differ rs ts herd scan
 unfolding rows
-one-value-is-needed = (vr (plain herd one) ∷ vr (another one) ∷ [], vr (another one) ∷ vr (plain herd one) ∷ [], swapped (vr (plain herd one)) (vr (another one)), differ)
+one-value-is-needed = (
+  vr (plain herd one) ∷ vr (another one) ∷ [],
+  vr (another one) ∷ vr (plain herd one) ∷ [],
+  record {
+    same = swapped (vr (plain herd one)) (vr (another one));
+    v = told one false (plain herd one) 0;
+    w = told one false (another one) 0;
+    first = row 4;
+    second = row 5;
+    values = λ e. let n : _≡_ {A = ℕ} 43 46 = ap length e in omega arith;
+  },
+)
   where
     row : (k : ℕ) → getD (map (λ (r : Row). lookup packLimit (r .pack) (r .bucket) (r .object)) rows) k nothing ≡ getD (map (λ (r : Row). r .answer) rows) k nothing
     row k = ap (λ l. getD l k nothing) rows-hold
-
-    values : SameAnswer (is one false (plain herd one) 0) (is one false (another one) 0) → ⊥
-    values same = let e : _≡_ {A = ℕ} 43 46 = ap length (same .value) in omega arith
-
-    differ : SameAnswer (lookup packLimit (layouts (vr (plain herd one) ∷ vr (another one) ∷ [])) herd scan) (lookup packLimit (layouts (vr (another one) ∷ vr (plain herd one) ∷ [])) herd scan) → ⊥
-    differ same = values (subst₂ SameAnswer (row 4) (row 5) same)

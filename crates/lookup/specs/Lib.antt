@@ -5,6 +5,7 @@ pub mod Exactly
 pub mod Packs
 pub mod Deletion
 pub mod Order
+pub mod Bytes
 pub mod Walk
 pub mod Search
 pub mod Examples

@@ -30,10 +30,10 @@ unfoldable pub standing : ℕ → ℕ → List Record → List Placed
 standing limit at [] = []
 standing limit at (r ∷ rs) = placedBy limit at (r .tag) (r .value) ∷ standing limit (at + length (layout r)) rs
 
-value-standing : (at : ℕ) (r : Record) (rs : List Record) (s : List ℕ) → drop at s ≡ layout r ++ layouts rs → valueOf s (entryOf at r) ≡ r .value
+pub value-standing : (at : ℕ) (r : Record) (rs : List Record) (s : List ℕ) → drop at s ≡ layout r ++ layouts rs → valueOf s (entryOf at r) ≡ r .value
 value-standing at r rs s e = ap (λ t. take (length (r .value)) (drop 32 t)) e ∙ value-there r (layouts rs)
 
-rest-standing : (at : ℕ) (r : Record) (rs : List Record) (s : List ℕ) → drop at s ≡ layout r ++ layouts rs → drop (at + length (layout r)) s ≡ layouts rs
+pub rest-standing : (at : ℕ) (r : Record) (rs : List Record) (s : List ℕ) → drop at s ≡ layout r ++ layouts rs → drop (at + length (layout r)) s ≡ layouts rs
 rest-standing at r rs s e = sym (drop-drop (length (layout r)) at s) ∙ ap (drop (length (layout r))) e ∙ drop-at (layout r) (layouts rs) (length (layout r)) refl
 
 placed-standing : (limit at : ℕ) (rs : List Record) (s : List ℕ) → drop at s ≡ layouts rs → map (placed limit s) (entriesOf at rs) ≡ standing limit at rs
@@ -94,13 +94,13 @@ accepted-within limit s e = go (ltb limit (length s)) refl e
     go false p h = ltb-false limit (length s) p
 
 -- tag and value, by an entry and by a record
-abbrev ofEntry : List ℕ → Entry → ℕ × List ℕ
+abbrev pub ofEntry : List ℕ → Entry → ℕ × List ℕ
 ofEntry s e = (e .tag, valueOf s e)
 
-abbrev ofRecord : Record → ℕ × List ℕ
+abbrev pub ofRecord : Record → ℕ × List ℕ
 ofRecord r = (r .tag, r .value)
 
-tags-and-values : (at : ℕ) (rs : List Record) (s : List ℕ) → drop at s ≡ layouts rs → map (ofEntry s) (entriesOf at rs) ≡ map ofRecord rs
+pub tags-and-values : (at : ℕ) (rs : List Record) (s : List ℕ) → drop at s ≡ layouts rs → map (ofEntry s) (entriesOf at rs) ≡ map ofRecord rs
 unfolding layouts entriesOf
 tags-and-values at [] s e = refl
 tags-and-values at (r ∷ rs) s e = rw (value-standing at r rs s e, tags-and-values (at + length (layout r)) rs s (rest-standing at r rs s e))
