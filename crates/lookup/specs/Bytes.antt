@@ -92,10 +92,10 @@ taken-out limit i s bytes a =
     readable-pack limit (takenOutOf limit i s) (takenOut limit i (w .rs)) (taken-out-readable limit i (w .rs) (w .readable)) (taken-out-is limit i s w)
 
 -- DELETION
-pub deletion : (limit : ℕ) (s : List ℕ) (d : Record) (x : records.Record) (bucket object : List ℕ)
+pub deletion-answers-as-taken-out : (limit : ℕ) (s : List ℕ) (d : Record) (x : records.Record) (bucket object : List ℕ)
     → AllBytes s → ReadablePack limit s → Fits d → d .tag ≡ versionDeleteTag → readRecord limit versionDeleteTag (d .value) ≡ primary.read x → length (s ++ layout d) ≤ limit → isName bucket object ≡ true
     → SameAnswer (lookup limit (s ++ layout d) bucket object) (lookup limit (takenOutOf limit (x .contents .identifier) s) bucket object)
-deletion limit s d x bucket object bytes a fits tag e within name =
+deletion-answers-as-taken-out limit s d x bucket object bytes a fits tag e within name =
     let w = whole-pack limit s bytes a in
     let i : Identity = x .contents .identifier in
     let after : layouts (w .rs ++ (d ∷ [])) ≡ s ++ layout d = layouts-with (w .rs) d ∙ ap (λ t. t ++ layout d) (w .bytes) in
@@ -115,10 +115,10 @@ one-value limit s w one r t i f g m n p q =
     there r m = subst (List·Memᴰ (ofRecord r)) (sym (tags-and-values 0 (w .rs) s (sym (w .bytes)))) (Memᴰ·map ofRecord m)
 
 -- ORDER
-pub order : (limit : ℕ) (s t bucket object : List ℕ)
+pub rearranged-packs-answer-alike : (limit : ℕ) (s t bucket object : List ℕ)
     → AllBytes s → AllBytes t → ReadablePack limit s → ReadablePack limit t → SameRecordsIn limit s t → OneValueIn limit s → isName bucket object ≡ true
     → SameAnswer (lookup limit s bucket object) (lookup limit t bucket object)
-order limit s t bucket object b c p q same one name =
+rearranged-packs-answer-alike limit s t bucket object b c p q same one name =
     let v = whole-pack limit s b p in
     let w = whole-pack limit t c q in
     let often : SameRecords (v .rs) (w .rs) = λ bytes.

@@ -5,23 +5,22 @@ use mathlib.Core.List.{List, [], _∷_, _++_, map, List·Memᴰ, List·Memᴰ·h
 use mathlib.Core.Logic.{_↔_}
 use mathlib.Core.Option.{Option, none, some}
 use mathlib.Core.Path.{_≡_, refl, sym, ap, subst, _∙_}
-use borrow.Author.Tests.{ltb-false}
-use lib.Dec.{ltb}
 use lib.ListN.{length, take, drop}
 use lib.Seq.{drop-at, drop-drop}
 use Rattle.endian.specs.Bytes.{AllBytes}
 use Rattle.tlv.specs.Layout.{Record, layout, layouts}
-use Rattle.pack.specs.Reading.{Reading, Ending, whole, refused, reading, records}
+use Rattle.pack.specs.Reading.{Reading, Ending, whole, reading}
 use Rattle.pack.specs.declared.Entry.{Entry}
 use Rattle.pack.specs.Acceptance.{AllFit, entryOf, entriesOf, layouts-accepted, accepted-exactly}
 use Rattle.msgpack.specs.HeadLaws.{absurd-numbers}
 use Rattle.identifier.specs.Texts.{less}
 use Rattle.identifier.specs.Identity.{Identity}
 use Rattle.primary.specs.Parts as primary
-use Rattle.records.specs.Record as record-specs
+use Rattle.records.specs.Record as records
 use Rattle.records.specs.Record.{readRecord, isRead, canBeRead}
 use Rattle.records.specs.Laws.{value-there}
 use Rattle.lookup.specs.Current.{Role, version, deletion, other, unreadable, roleBy, roleOf, isLookedAt, role, Placed, placedBy, valueOf, placed, Version, versionBy, versionOf, filtered, better, best, isDeleted, isLive, current, Answer, nothing, found, refusedAt, alone, unreadableFirst, readability, answerOf, answerIn, isName, lookup}
+use Rattle.lookup.specs.Walk.{accepted-within}
 use Rattle.lookup.specs.Best.{no-version, same-version, ulidOf, best-same}
 
 -- ---- records that stand end to end, from a place on
@@ -62,12 +61,12 @@ read-first : (limit tag : ℕ) (value : List ℕ) (p : Placed) (next : Ending) �
 unfolding role canBeRead
 read-first limit tag value p next h = go (isLookedAt tag) (readRecord limit tag value) h
   where
-    by : (i : Identity) (k : record-specs.Kind) → unreadableFirst p (roleBy i k) next ≡ next
-    by i record-specs.block = refl
-    by i (record-specs.version f) = refl
-    by i (record-specs.versionDelete d) = refl
+    by : (i : Identity) (k : records.Kind) → unreadableFirst p (roleBy i k) next ≡ next
+    by i records.block = refl
+    by i (records.version f) = refl
+    by i (records.versionDelete d) = refl
 
-    go : (t : Bool) (a : primary.Answer record-specs.Record) → (t ≡ true → isRead a ≡ true) → unreadableFirst p (cond t (roleOf a) other) next ≡ next
+    go : (t : Bool) (a : primary.Answer records.Record) → (t ≡ true → isRead a ≡ true) → unreadableFirst p (cond t (roleOf a) other) next ≡ next
     go true (primary.read r) h = by (r .contents .identifier) (r .contents .kind)
     go true (primary.refused n) h = let e = h refl in absurd-numbers (cc)
     go false a h = refl
@@ -84,14 +83,6 @@ all-readable limit at (r ∷ rs) h =
 pub record ReadablePack (limit : ℕ) (s : List ℕ) : Type 0 where
   pub accepted : reading limit s .ending ≡ whole
   pub all-read : (e : Entry) → List·Memᴰ e (reading limit s .entries) → isLookedAt (e .tag) ≡ true → canBeRead limit (e .tag) (valueOf s e) ≡ true
-
-accepted-within : (limit : ℕ) (s : List ℕ) → reading limit s .ending ≡ whole → length s ≤ limit
-unfolding reading
-accepted-within limit s e = go (ltb limit (length s)) refl e
-  where
-    go : (t : Bool) → ltb limit (length s) ≡ t → cond t (record { entries = []; ending = refused 1 0 }) (records 0 0 s) .ending ≡ whole → length s ≤ limit
-    go true p h = absurd-numbers (cc)
-    go false p h = ltb-false limit (length s) p
 
 -- tag and value, by an entry and by a record
 abbrev pub ofEntry : List ℕ → Entry → ℕ × List ℕ

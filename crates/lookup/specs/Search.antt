@@ -8,14 +8,14 @@ use mathlib.Core.Path.{_≡_, refl, sym, ap, subst, _∙_}
 use native.Mathlib.Omega.{arith}
 use borrow.Author.Tests.{lt-ltb, ltb-true, eqb-true, ne-eqb, not-true}
 use lib.Dec.{eqb, ltb}
-use lib.ListN.{length, take, drop}
+use lib.ListN.{length, drop}
 use Rattle.pack.specs.Reading.{records}
 use Rattle.identifier.specs.Texts.{member, all, less, both}
 use Rattle.identifier.specs.Order.{less-irreflexive, less-transitive}
 use Rattle.identifier.specs.Ulid.{alphabet, isCharacter, isUlid}
 use Rattle.identifier.specs.Identity.{Identity, isBucket, isObject, isValid}
 use Rattle.identifier.specs.Held.{hasName}
-use Rattle.lookup.specs.Current.{Placed, placed, Version, versionOf, filtered, best, isDeleted, isLive, current}
+use Rattle.lookup.specs.Current.{Placed, valueOf, placed, Version, versionOf, filtered, best, isDeleted, isLive, current}
 use Rattle.lookup.specs.Roles.{version-told, version-role}
 use Rattle.lookup.specs.Walk.{placedFrom}
 use Rattle.lookup.specs.Best.{either, clash, not-so, ulidOf, Passes, Best, best-member, best-greatest, best-same, best-none, best-found, found-best, none-best}
@@ -70,9 +70,8 @@ pub walk-ulids : (limit : ℕ) (s : List ℕ) (at : ℕ) → AllUlids (placedFro
 unfolding placedFrom isValid
 walk-ulids limit s at p v m e =
     let o = Memᴰ·of-map (placed limit s) (records at 0 (drop at s) .entries) m in
-    let value : List ℕ = take (o .0 .length) (drop 32 (drop (o .0 .start) s)) in
-    let r = version-told limit (o .0 .start) (o .0 .tag) value v (ap versionOf (o .2) ∙ e) in
-    let rules = version-role limit (o .0 .tag) value (v .identifier) (v .deleteFlag) r .rules in
+    let r = version-told limit (o .0 .start) (o .0 .tag) (valueOf s (o .0)) v (ap versionOf (o .2) ∙ e) in
+    let rules = version-role limit (o .0 .tag) (valueOf s (o .0)) (v .identifier) (v .deleteFlag) r .rules in
     both (isUlid (ulidOf v)) (isBucket (v .identifier .bucket)) (both (isUlid (ulidOf v) && isBucket (v .identifier .bucket)) (isObject (v .identifier .object)) rules .0) .0
 
 pub search-start : (ps : List Placed) (bucket object : List ℕ) → AllUlids ps → current ps bucket object ≡ currentBelow ps bucket object firstBound

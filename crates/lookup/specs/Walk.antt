@@ -4,6 +4,7 @@ use mathlib.Core.Bool.{Bool, true, false, cond}
 use mathlib.Core.List.{List, [], _∷_, map}
 use mathlib.Core.Path.{_≡_, refl, sym, ap, _∙_}
 use native.Mathlib.Omega.{arith}
+use borrow.Author.Tests.{le-ltb, ltb-false}
 use lib.Dec.{ltb}
 use lib.ListN.{length, drop, length-drop}
 use Rattle.tlv.specs.Found.{Found, end, found, fault, step, step-none, step-end}
@@ -22,13 +23,17 @@ abbrev pub Checked : List ℕ → ℕ → Type 0
 Checked s at = records at 0 (drop at s) .ending ≡ whole
 
 module _ (limit : ℕ) (s : List ℕ) where
+  pub accepted-within : reading limit s .ending ≡ whole → length s ≤ limit
+  unfolding reading
+  accepted-within e = go (ltb limit (length s)) refl e
+    where
+      go : (t : Bool) → ltb limit (length s) ≡ t → cond t (record { entries = []; ending = refused 1 0 }) (records 0 0 s) .ending ≡ whole → length s ≤ limit
+      go true p h = absurd-numbers (cc)
+      go false p h = ltb-false limit (length s) p
+
   accepted-reading : reading limit s .ending ≡ whole → reading limit s ≡ records 0 0 s
   unfolding reading
-  accepted-reading e = go (ltb limit (length s)) e
-    where
-      go : (t : Bool) → cond t (record { entries = []; ending = refused 1 0 }) (records 0 0 s) .ending ≡ whole → cond t (record { entries = []; ending = refused 1 0 }) (records 0 0 s) ≡ records 0 0 s
-      go true e = absurd-numbers (cc)
-      go false e = refl
+  accepted-reading e = rw (le-ltb limit (length s) (accepted-within e))
 
   -- an accepted pack is walked from its start
   pub walk-start : reading limit s .ending ≡ whole → Checked s 0
