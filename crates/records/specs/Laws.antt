@@ -103,7 +103,7 @@ the-record limit tag s e = by (readRecord limit tag s) refl e
 
 -- ---- a record in a pack: what stands before and after it, and bytes 28 and 29, play no part
 
-value-there : (r : tlv.Record) (rest : List ℕ) → take (length (r .value)) (drop 32 (layout r ++ rest)) ≡ r .value
+pub value-there : (r : tlv.Record) (rest : List ℕ) → take (length (r .value)) (drop 32 (layout r ++ rest)) ≡ r .value
 unfolding layout
 value-there r rest = rw (append-assoc (tlv.head r) (r .value) rest, drop-at (tlv.head r) (r .value ++ rest) 32 (length-head r), take-at (r .value) rest (length (r .value)) refl)
 

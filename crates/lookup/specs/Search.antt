@@ -1,0 +1,218 @@
+-- How code without memory finds the current version: the greatest ULID of the name below a bound, again and again, until one is not deleted.
+use Prim.Native.Nat.{ℕ, _+_, _≤_, _<_}
+use mathlib.Core.Bool.{Bool, true, false, cond, not, _&&_, _||_, true≢false, and-true, and-false}
+use mathlib.Core.List.{List, [], _∷_, List·Memᴰ, List·Memᴰ·not-nil, List·Memᴰ·cases-cons, Memᴰ·of-map}
+use mathlib.Core.Logic.{⊎-elim}
+use mathlib.Core.Option.{Option, none, some}
+use mathlib.Core.Path.{_≡_, refl, sym, ap, subst, _∙_}
+use native.Mathlib.Omega.{arith}
+use borrow.Author.Tests.{lt-ltb, ltb-true, eqb-true, ne-eqb, not-true}
+use lib.Dec.{eqb, ltb}
+use lib.ListN.{length, drop}
+use Rattle.pack.specs.Reading.{records}
+use Rattle.identifier.specs.Texts.{member, all, less, both}
+use Rattle.identifier.specs.Order.{less-irreflexive, less-transitive}
+use Rattle.identifier.specs.Ulid.{alphabet, isCharacter, isUlid}
+use Rattle.identifier.specs.Identity.{Identity, isBucket, isObject, isValid}
+use Rattle.identifier.specs.Held.{hasName}
+use Rattle.lookup.specs.Current.{Placed, valueOf, placed, Version, versionOf, filtered, best, isDeleted, isLive, current}
+use Rattle.lookup.specs.Roles.{version-told, version-role}
+use Rattle.lookup.specs.Walk.{placedFrom}
+use Rattle.lookup.specs.Best.{either, clash, not-so, ulidOf, Passes, Best, best-member, best-greatest, best-same, best-none, best-found, found-best, none-best}
+use Rattle.lookup.specs.Exactly.{same-name, has-name}
+
+-- below a bound: of the versions of this name, deleted or not, the best; and the current one
+unfoldable pub isBelow : List ℕ → List ℕ → List ℕ → Identity → Bool
+isBelow bucket object bound i = hasName (some i) bucket object && less (i .ulid) bound
+
+unfoldable pub greatestBelow : List Placed → List ℕ → List ℕ → List ℕ → Option Version
+greatestBelow ps bucket object bound = best (isBelow bucket object bound) ps
+
+unfoldable pub isLiveBelow : List Placed → List ℕ → List ℕ → List ℕ → Identity → Bool
+isLiveBelow ps bucket object bound i = isLive ps bucket object i && less (i .ulid) bound
+
+unfoldable pub currentBelow : List Placed → List ℕ → List ℕ → List ℕ → Option Version
+currentBelow ps bucket object bound = best (isLiveBelow ps bucket object bound) ps
+
+-- ---- the first bound: one byte, greater than every character of a ULID
+
+abbrev pub firstBound : List ℕ
+firstBound = 0x5b ∷ []  -- [
+
+all-member : (test : ℕ → Bool) (l : List ℕ) (x : ℕ) → all test l ≡ true → member x l ≡ true → test x ≡ true
+unfolding all member
+all-member test [] x a m = absurd (true≢false (sym m))
+all-member test (y ∷ l) x a m = go (eqb y x) refl m (both (test y) (all test l) a) (all-member test l x)
+  where
+    go : (t : Bool) → eqb y x ≡ t → (t || member x l) ≡ true → (test y ≡ true) × (all test l ≡ true) → (all test l ≡ true → member x l ≡ true → test x ≡ true) → test x ≡ true
+    go true e n h rest = subst (λ z. test z ≡ true) (eqb-true y x e) (h .0)
+    go false e n h rest = rest (h .1) n
+
+character-below : (x : ℕ) → isCharacter x ≡ true → x < 0x5b
+unfolding isCharacter alphabet all
+character-below x e = ltb-true x 0x5b (all-member (λ y. ltb y 0x5b) alphabet x refl e)
+
+pub ulid-below : (u : List ℕ) → isUlid u ≡ true → less u firstBound ≡ true
+unfolding isUlid all less
+ulid-below [] e = refl
+ulid-below (x ∷ u) e =
+    let h = both (eqb (length (x ∷ u)) 26) (isCharacter x && all isCharacter u) e in
+    let c = character-below x (both (isCharacter x) (all isCharacter u) (h .1) .0) in
+    let n : x ≡ 0x5b → ⊥ = λ q. omega arith in
+    rw (ne-eqb x 0x5b n, lt-ltb x 0x5b c)
+
+-- the ULIDs of the versions are such
+abbrev pub AllUlids : List Placed → Type 0
+AllUlids ps = (p : Placed) (v : Version) → List·Memᴰ p ps → versionOf p ≡ some v → isUlid (ulidOf v) ≡ true
+
+-- the versions of a pack are read, so their identifiers keep the rules
+pub walk-ulids : (limit : ℕ) (s : List ℕ) (at : ℕ) → AllUlids (placedFrom limit s at)
+unfolding placedFrom isValid
+walk-ulids limit s at p v m e =
+    let o = Memᴰ·of-map (placed limit s) (records at 0 (drop at s) .entries) m in
+    let r = version-told limit (o .0 .start) (o .0 .tag) (valueOf s (o .0)) v (ap versionOf (o .2) ∙ e) in
+    let rules = version-role limit (o .0 .tag) (valueOf s (o .0)) (v .identifier) (v .deleteFlag) r .rules in
+    both (isUlid (ulidOf v)) (isBucket (v .identifier .bucket)) (both (isUlid (ulidOf v) && isBucket (v .identifier .bucket)) (isObject (v .identifier .object)) rules .0) .0
+
+pub search-start : (ps : List Placed) (bucket object : List ℕ) → AllUlids ps → current ps bucket object ≡ currentBelow ps bucket object firstBound
+unfolding current currentBelow isLiveBelow
+search-start ps bucket object ulids =
+    best-same (isLive ps bucket object) (isLiveBelow ps bucket object firstBound) ps
+    (λ p v m e. rw (ulid-below (ulidOf v) (ulids p v m e)) (sym (and-true (isLive ps bucket object (v .identifier)))))
+
+-- ---- how many versions of the name are below a bound
+
+abbrev one : Option Version → ℕ
+one none = 0
+one (some v) = 1
+
+unfoldable pub howMany : (Identity → Bool) → List Placed → ℕ
+howMany test [] = 0
+howMany test (p ∷ ps) = one (filtered test (versionOf p)) + howMany test ps
+
+unfoldable pub versionsBelow : List Placed → List ℕ → List ℕ → List ℕ → ℕ
+versionsBelow ps bucket object bound = howMany (isBelow bucket object bound) ps
+
+module _ (test wider : Identity → Bool) (narrower : (i : Identity) → test i ≡ true → wider i ≡ true) where
+  no-more-here : (a : Option Version) → one (filtered test a) ≤ one (filtered wider a)
+  unfolding filtered
+  no-more-here none = omega arith
+  no-more-here (some v) = go (test (v .identifier)) refl
+    where
+      go : (t : Bool) → test (v .identifier) ≡ t → one (cond t (some v) none) ≤ one (cond (wider (v .identifier)) (some v) none)
+      go true e = rw (narrower (v .identifier) e) (omega arith)
+      go false e = omega arith
+
+  no-more : (ps : List Placed) → howMany test ps ≤ howMany wider ps
+  unfolding howMany
+  no-more [] = omega arith
+  no-more (p ∷ ps) = omega (arith, no-more-here (versionOf p), no-more ps)
+
+  fewer : (ps : List Placed) (p : Placed) (v : Version) → List·Memᴰ p ps → Passes wider (versionOf p) v → test (v .identifier) ≡ false → howMany test ps < howMany wider ps
+  unfolding howMany filtered
+  fewer [] p v m o e = absurd (List·Memᴰ·not-nil m)
+  fewer (q ∷ ps) p v m o e = ⊎-elim here (λ n. omega (arith, no-more-here (versionOf q), fewer ps p v n o e)) (List·Memᴰ·cases-cons m)
+    where
+      here : p ≡ q → one (filtered test (versionOf q)) + howMany test ps < one (filtered wider (versionOf q)) + howMany wider ps
+      here h =
+          let is : versionOf q ≡ some v = ap versionOf (sym h) ∙ o .is in
+          rw (is, e, o .test-passed) (omega (arith, no-more ps))
+
+-- ---- a step of the search
+
+same-test : (a b : Bool) → (a ≡ true → b ≡ true) → (b ≡ true → a ≡ true) → a ≡ b
+same-test true b f g = sym (f refl)
+same-test false b f g = sym (not-so b (λ e. true≢false (sym (g e))))
+
+module _ (ps : List Placed) (bucket object bound : List ℕ) where
+  abbrev below : Identity → Bool
+  below = isBelow bucket object bound
+
+  abbrev liveBelow : List ℕ → Identity → Bool
+  liveBelow = isLiveBelow ps bucket object
+
+  live-below : (i : Identity) → liveBelow bound i ≡ true → below i ≡ true
+  unfolding isLiveBelow isLive isBelow
+  live-below i e = go (hasName (some i) bucket object) (isDeleted ps i) e
+    where
+      go : (a b : Bool) → ((a && not b) && less (i .ulid) bound) ≡ true → (a && less (i .ulid) bound) ≡ true
+      go true true h = absurd (true≢false (sym h))
+      go true false h = h
+      go false b h = h
+
+  live-kept : (b : List ℕ) (i : Identity) → liveBelow b i ≡ true → isDeleted ps i ≡ false
+  unfolding isLiveBelow isLive
+  live-kept b i e =
+      let h = both (isLive ps bucket object i) (less (i .ulid) b) e in
+      not-true (isDeleted ps i) (both (hasName (some i) bucket object) (not (isDeleted ps i)) (h .0) .1)
+
+  below-name : (i : Identity) → below i ≡ true → (i .bucket ≡ bucket) × (i .object ≡ object)
+  unfolding isBelow
+  below-name i e = has-name bucket object i (both (hasName (some i) bucket object) (less (i .ulid) bound) e .0)
+
+  pub search-nothing : greatestBelow ps bucket object bound ≡ none → currentBelow ps bucket object bound ≡ none
+  unfolding greatestBelow currentBelow
+  search-nothing e = none-best (liveBelow bound) ps (λ p v m o. best-none below ps e p v m (record { is = o .is; test-passed = live-below (v .identifier) (o .test-passed) }))
+
+  below-live : (i : Identity) → below i ≡ true → isDeleted ps i ≡ false → liveBelow bound i ≡ true
+  unfolding isLiveBelow isLive isBelow
+  below-live i e kept = let h = both (hasName (some i) bucket object) (less (i .ulid) bound) e in rw (h .0, h .1, kept)
+
+  module _ (c : Version) (found : greatestBelow ps bucket object bound ≡ some c) where
+    greatest : Best below ps c
+    unfolding greatestBelow
+    greatest = best-found below ps c found
+
+    -- what is found is current, where no `vd` names it
+    pub search-found : isDeleted ps (c .identifier) ≡ false → currentBelow ps bucket object bound ≡ some c
+    unfolding currentBelow
+    search-found kept =
+        found-best (liveBelow bound)
+        (record {
+          front = greatest .front;
+          at = greatest .at;
+          back = greatest .back;
+          cut = greatest .cut;
+          offers = record { is = greatest .offers .is; test-passed = below-live (c .identifier) (greatest .offers .test-passed) kept };
+          earlier = λ p w m o. greatest .earlier p w m (wider p w o);
+          later = λ p w m o. greatest .later p w m (wider p w o);
+        })
+      where
+        wider : (p : Placed) (w : Version) → Passes (liveBelow bound) (versionOf p) w → Passes below (versionOf p) w
+        wider p w o = record { is = o .is; test-passed = live-below (w .identifier) (o .test-passed) }
+
+    -- where one does, the current version is below it
+    pub search-deleted : isDeleted ps (c .identifier) ≡ true → currentBelow ps bucket object bound ≡ currentBelow ps bucket object (ulidOf c)
+    unfolding currentBelow isLiveBelow isBelow
+    search-deleted gone = best-same (liveBelow bound) (liveBelow (ulidOf c)) ps (λ p v m e. same-test (liveBelow bound (v .identifier)) (liveBelow (ulidOf c) (v .identifier)) (down p v m e) (up v))
+      where
+        down : (p : Placed) (v : Version) → List·Memᴰ p ps → versionOf p ≡ some v → liveBelow bound (v .identifier) ≡ true → liveBelow (ulidOf c) (v .identifier) ≡ true
+        down p v m e l =
+            let b = live-below (v .identifier) l in
+            let least = best-greatest below greatest p v m (record { is = e; test-passed = b }) in
+            let n = below-name (v .identifier) b in
+            let k = below-name (c .identifier) (greatest .offers .test-passed) in
+            ⊎-elim (λ t. rw (both (isLive ps bucket object (v .identifier)) (less (ulidOf v) bound) l .0) t)
+            (λ t.
+            let same : v .identifier ≡ c .identifier = same-name (v .identifier) (c .identifier) (n .0 ∙ sym (k .0)) (n .1 ∙ sym (k .1)) t least in
+            clash (ap (isDeleted ps) same ∙ gone) (live-kept bound (v .identifier) l))
+            (either (less (ulidOf v) (ulidOf c)))
+
+        up : (v : Version) → liveBelow (ulidOf c) (v .identifier) ≡ true → liveBelow bound (v .identifier) ≡ true
+        up v l =
+            let h = both (isLive ps bucket object (v .identifier)) (less (ulidOf v) (ulidOf c)) l in
+            let k = both (hasName (some (c .identifier)) bucket object) (less (ulidOf c) bound) (greatest .offers .test-passed) in
+            rw (h .0, less-transitive (ulidOf v) (ulidOf c) bound (h .1) (k .1))
+
+    -- and fewer versions are below it
+    pub search-falls : versionsBelow ps bucket object (ulidOf c) < versionsBelow ps bucket object bound
+    unfolding versionsBelow isBelow
+    search-falls =
+        fewer (isBelow bucket object (ulidOf c)) below narrower ps (greatest .at) c (best-member below greatest) (greatest .offers)
+        (rw (less-irreflexive (ulidOf c)) (and-false (hasName (some (c .identifier)) bucket object)))
+      where
+        narrower : (i : Identity) → isBelow bucket object (ulidOf c) i ≡ true → below i ≡ true
+        narrower i e =
+            let h = both (hasName (some i) bucket object) (less (i .ulid) (ulidOf c)) e in
+            let k = both (hasName (some (c .identifier)) bucket object) (less (ulidOf c) bound) (greatest .offers .test-passed) in
+            rw (h .0, less-transitive (i .ulid) (ulidOf c) bound (h .1) (k .1))
