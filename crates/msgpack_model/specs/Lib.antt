@@ -8,6 +8,7 @@ pub mod Deep
 pub mod Passing
 pub mod Scalars
 pub mod Unique
+pub mod Bytes
 pub mod Readers
 pub mod Lookup
 pub mod Writers

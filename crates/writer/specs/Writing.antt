@@ -12,6 +12,7 @@ use Rattle.pack.specs.Reading.{packLimit}
 use Rattle.identifier.specs.Ulid.{isUlid}
 use Rattle.identifier.specs.Identity.{Identity, isValid}
 use Rattle.primary.specs.Parts as primary
+use Rattle.records.specs.Record.{blockTag, versionTag, versionDeleteTag, isRead}
 use Rattle.writer.specs.Values.{blockValue, partValue, deletePart}
 use Rattle.writer.specs.declared.Written.{Written}
 use Rattle.writer.specs.declared.Written.the-variants.{Count, Short, Inadmissible}
@@ -23,16 +24,6 @@ pub data Item : Type 0 where
   version : List ℕ → Item  -- a primary part handed in
   versionDelete : List ℕ → Item  -- likewise
   deletion : Identity → List ℕ → Item  -- a version delete made from an identifier and a delete ULID
-
--- tags: two letters, as one number
-abbrev pub blockTag : ℕ
-blockTag = 0x626b  -- `bk`
-
-abbrev pub versionTag : ℕ
-versionTag = 0x7672  -- `vr`
-
-abbrev pub versionDeleteTag : ℕ
-versionDeleteTag = 0x7664  -- `vd`
 
 abbrev pub tagOf : Item → ℕ
 tagOf (block i d) = blockTag
@@ -54,10 +45,6 @@ abbrev pub itemBytes : Item → List ℕ
 itemBytes item = layout (recordOf (tagOf item) (valueOf item))
 
 -- ---- what is admitted
-
-abbrev pub isRead : {A : Type 0} → primary.Answer A → Bool
-isRead (primary.read a) = true
-isRead (primary.refused n) = false
 
 abbrev pub admitted : Item → Bool
 admitted (block i d) = isValid i

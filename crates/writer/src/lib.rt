@@ -16,19 +16,14 @@ ghost use Rattle.identifier.specs.Identity.{identity, isValid};
 ghost use Rattle.identifier.specs.Ulid.{isUlid};
 ghost use Rattle.identifier.specs.Composite.{compositeText};
 ghost use Rattle.identifier.specs.Held.{named};
+ghost use Rattle.records.specs.Record.{blockTag, versionDeleteTag};
 ghost use Rattle.writer.specs.Values.{textItem, pair, primaryHeader, secondaryHeader, blockHeader, partHeader, blockPart, blockValue, partValue, identityPairs, deletePart};
 ghost use Rattle.writer.specs.Putting.{Puts, toldPlace, front};
-ghost use Rattle.writer.specs.Writing.{block, version, versionDelete, deletion, blockTag, versionDeleteTag, recordOf, ofIdentity, answerOf, counted, Stores, written, bufferAfter};
+ghost use Rattle.writer.specs.Writing.{block, version, versionDelete, deletion, recordOf, ofIdentity, answerOf, counted, Stores, written, bufferAfter};
 use identifier::Identifier;
 use primary::DeleteRead;
 use primary::VersionRead;
 use tlv::RecordHeader;
-
-const BLOCK: u16 = 0x626b;
-
-const VERSION: u16 = 0x7672;
-
-const VERSION_DELETE: u16 = 0x7664;
 
 // The fixed bytes, in front of what varies: of a block's header, `{s: [{l`; the key `e`; of every other
 // header, the map's head; of a block's primary part, `{I`; of that of a made version delete, the
@@ -359,7 +354,7 @@ fn store_block(
         Written::Count(end) => {
             let start = used + RecordHeader::LENGTH;
             let _ = put_block_value(buf, start, part, ulid, bucket, object, content);
-            put_header(buf, used, BLOCK, value);
+            put_header(buf, used, records::BLOCK, value);
             Written::Count(end)
         }
         Written::Short => Written::Short,
@@ -402,7 +397,7 @@ fn store_deletion(
         Written::Count(end) => {
             let start = used + RecordHeader::LENGTH;
             let _ = put_delete_value(buf, start, part, ulid, bucket, object, deleteid);
-            put_header(buf, used, VERSION_DELETE, value);
+            put_header(buf, used, records::VERSION_DELETE, value);
             Written::Count(end)
         }
         Written::Short => Written::Short,
@@ -434,7 +429,7 @@ pub fn write_version(buf: &mut [u8], used: usize, part: &[u8]) -> Written
     ensures buffer { λ _. ⌜ now (buf .exit) ≡ bufferAfter packLimit used (some (version (now (part .entry)))) (now (buf .entry)) ⌝ }
 {
     match primary::read_version(part) {
-        VersionRead::Read(_, _) => store_part(buf, used, VERSION, part),
+        VersionRead::Read(_, _) => store_part(buf, used, records::VERSION, part),
         VersionRead::Fault(_) => Written::Inadmissible,
     }
 }
@@ -445,7 +440,7 @@ pub fn write_delete(buf: &mut [u8], used: usize, part: &[u8]) -> Written
     ensures buffer { λ _. ⌜ now (buf .exit) ≡ bufferAfter packLimit used (some (versionDelete (now (part .entry)))) (now (buf .entry)) ⌝ }
 {
     match primary::read_delete(part) {
-        DeleteRead::Read(_, _) => store_part(buf, used, VERSION_DELETE, part),
+        DeleteRead::Read(_, _) => store_part(buf, used, records::VERSION_DELETE, part),
         DeleteRead::Fault(_) => Written::Inadmissible,
     }
 }

@@ -6,7 +6,8 @@ use lib.ListN.{length}
 use Rattle.identifier.specs.Identity.{Identity, identity}
 use Rattle.writer.specs.Limits.{content-within, too-long}
 use Rattle.writer.specs.Values.{blockValue}
-use Rattle.writer.specs.Writing.{block, blockTag}
+use Rattle.records.specs.Record.{blockTag}
+use Rattle.writer.specs.Writing.{block}
 use Rattle.writer.specs.declared.Written.the-variants.{Short, Inadmissible}
 use Rattle.writer.proofs.Fixed.{block-value-size}
 use Rattle.writer.proofs.Storing.{stores-nothing, fits, value-fits, stores-record}

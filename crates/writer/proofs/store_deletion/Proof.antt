@@ -5,7 +5,7 @@ use borrow.Author.Needs.{needs}
 use lib.ListN.{length}
 use Rattle.identifier.specs.Identity.{Identity, identity}
 use Rattle.writer.specs.Values.{partValue, deletePart}
-use Rattle.writer.specs.Writing.{versionDeleteTag}
+use Rattle.records.specs.Record.{versionDeleteTag}
 use Rattle.writer.specs.declared.Written.the-variants.{Short, Inadmissible}
 use Rattle.writer.proofs.Fixed.{part-value-size}
 use Rattle.writer.proofs.Storing.{stores-nothing, fits, value-fits, stores-record}

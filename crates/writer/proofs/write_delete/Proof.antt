@@ -2,7 +2,8 @@
 use mathlib.Core.Path.{sym, ap, _∙_}
 use borrow.Author.Needs.{needs}
 use Rattle.primary.specs.Answers.{versionDeleteOf}
-use Rattle.writer.specs.Writing.{versionDelete, isRead}
+use Rattle.records.specs.Record.{isRead}
+use Rattle.writer.specs.Writing.{versionDelete}
 use Rattle.writer.proofs.Calls.{call-stores, call-refused}
 use Rattle.writer.proofs.write_delete.Statement.{statement}
 use Rattle.writer.proofs.write_delete.Tie as tie

@@ -2,7 +2,8 @@
 use mathlib.Core.Path.{sym, ap, _∙_}
 use borrow.Author.Needs.{needs}
 use Rattle.primary.specs.Answers.{versionOf}
-use Rattle.writer.specs.Writing.{version, isRead}
+use Rattle.records.specs.Record.{isRead}
+use Rattle.writer.specs.Writing.{version}
 use Rattle.writer.proofs.Calls.{call-stores, call-refused}
 use Rattle.writer.proofs.write_version.Statement.{statement}
 use Rattle.writer.proofs.write_version.Tie as tie
