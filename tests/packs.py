@@ -74,7 +74,7 @@ def item(x):
     if isinstance(x, bytes):
         return head(len(x), 0, 0, [(0xC4, 1), (0xC5, 2), (0xC6, 4)]) + x
     if isinstance(x, str):
-        text = x.encode()
+        text = x.encode(errors="surrogateescape")
         return head(len(text), 0xA0, 32, [(0xD9, 1), (0xDA, 2), (0xDB, 4)]) + text
     if isinstance(x, list):
         return head(len(x), 0x90, 16, [(0xDC, 2), (0xDD, 4)]) + b"".join(map(item, x))

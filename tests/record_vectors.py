@@ -3,7 +3,7 @@
 
 Written from document 01, docs/FORMAT.md and document 001, and not from the definitions that are
 proved. What a vector is to give is said twice here: by the plain reader of this file, and by hand,
-where it is a refusal or stands in the documents. Without arguments the script writes the program's
+where it is a refusal or stands in the documents. The same for what is written. Without arguments the script writes the program's
 stored stdin and stdout; with --check it compares them. That the program prints this stdout is
 checked by rt.
 """
@@ -12,10 +12,12 @@ import sys
 from collections import namedtuple
 
 sys.dont_write_bytecode = True
+import packs
 from packs import Raw, header, item, record, xxh64
 
 CRATE = os.path.join(os.path.dirname(os.path.abspath(__file__)), "..", "crates", "record_vectors")
-BUFFER = 262144
+INPUT = 524288
+BUFFER = 70000
 LIMIT = 4294967295
 
 # ---- a plain reader by document 01
@@ -252,6 +254,57 @@ def read_identifier(s):
         raise Refusal("malformed read malformed")
 
 
+# ---- a plain writer by document 01, into the buffer of the program
+
+buffer = bytearray(b"\xa5" * BUFFER)
+
+
+def eight(*numbers):
+    return b"".join(n.to_bytes(8, "big") for n in numbers)
+
+
+def written(made, used, room):
+    """made: the record, None where what is handed in is not admitted."""
+    if made is None or used + len(made) > LIMIT:
+        raise Refusal("20")
+    end = used + len(made)
+    if end > room:
+        raise Refusal("19")
+    buffer[used:end] = made
+    shown = printed(made) if len(made) < 256 else "%016x" % xxh64(made)
+    return "%d %s reads %s" % (end, shown, read_at(eight(used) + bytes(buffer[:end])))
+
+
+class Held(namedtuple("Held", "ulid bucket object lengths", defaults=[None])):
+    """An identifier by value. lengths: what it tells of bucket and object, where it is wrong."""
+
+    def bytes(self):
+        return [x.encode(errors="surrogateescape") for x in self[:3]]
+
+    def shown(self):
+        """As a vector has it: the lengths, and no more bytes than the arrays hold."""
+        ulid, bucket, object = self.bytes()
+        lengths = self.lengths or (len(bucket), len(object))
+        return [ulid, *map(eight, lengths), bucket[:63], object[:1024]]
+
+
+def admitted(read, *given):
+    try:
+        read(*given)
+        return True
+    except Refusal:
+        return False
+
+
+def held_record(made, id, *more):
+    right = id.lengths is None and admitted(identity, *id.bytes())
+    return made(id.ulid, id.bucket, id.object, *more) if right else None
+
+
+def part_record(tag, read, part):
+    return record(tag, item({"e": bytes(part)})) if admitted(read, part) else None
+
+
 # ---- the vectors
 
 READERS = {
@@ -272,19 +325,57 @@ def vector(kind, name, data, wanted=None):
         found, refused = READERS[kind](data), False
     except Refusal as refusal:
         found, refused = str(refusal), True
-    name = kind + " " + name
     right = not refused if wanted is None else found == str(wanted)
-    assert right, "%s: wanted %s, found %s" % (name, wanted or "a reading", found)
+    assert right, "%s %s: wanted %s, found %s" % (kind, name, wanted or "a reading", found)
+    cut = {"record": 2, "at": 8}.get(kind, 0)
+    add(kind, name, [data[:cut], data[cut:]] if cut else [data], found)
+
+
+def add(kind, name, shown, found):
+    name = kind + " " + name
     assert name not in names and "|" not in name, name
     names.add(name)
-    cut = {"record": 2, "at": 8}.get(kind, 0)
-    shown = (data[:cut].hex() + " " if cut else "") + data[cut:].hex()
-    inputs.append("%s %s | %s: %s\n" % (kind, shown, name, found))
+    inputs.append("%s %s | %s: %s\n" % (kind, " ".join(s.hex() for s in shown), name, found))
     outputs.append("%s: %s, %s\n" % (name, found, found))
 
 
 def at(name, place, pack, wanted=None):
     vector("at", name, place.to_bytes(8, "big") + pack, wanted)
+
+
+def call(kind, name, made, shown, wanted=None, used=0, room=BUFFER):
+    """A call of the writer. wanted: the count or the refusal; else that it is written."""
+    try:
+        found, refused = written(made, used, room), False
+    except Refusal as refusal:
+        found, refused = str(refusal), True
+    right = not refused if wanted is None else found.split()[0] == str(wanted)
+    assert right, "%s %s: wanted %s, found %s" % (kind, name, wanted or "a record", found)
+    found += " buffer %016x" % xxh64(buffer)
+    add("write_" + kind, name, [eight(room), eight(used), *shown], found)
+
+
+def write_block(name, id, data, *rest, **more):
+    call("block", name, held_record(packs.block, id, data), [*id.shown(), data], *rest, **more)
+
+
+def write_long_block(name, id, n, *rest, **more):
+    made = held_record(packs.block, id, b"d" * n)
+    call("long_block", name, made, [*id.shown(), eight(n)], *rest, **more)
+
+
+def write_version(name, part, *rest, **more):
+    call("version", name, part_record(b"vr", read_version, part), [part], *rest, **more)
+
+
+def write_delete(name, part, *rest, **more):
+    call("delete", name, part_record(b"vd", read_delete, part), [part], *rest, **more)
+
+
+def write_delete_of(name, id, by, *rest, **more):
+    text = by.encode(errors="surrogateescape")
+    made = held_record(packs.version_delete, id, by) if is_ulid(text) else None
+    call("delete_of", name, made, [*id.shown(), text], *rest, **more)
 
 
 def pairs(*given):
@@ -831,6 +922,168 @@ def places():
     at("the block around it", 0, outer)
 
 
+HELD = Held(ULID, "herd", "k")
+
+
+def written_blocks():
+    value = bytes.fromhex("82 A173 91 81 A16C 03 A165 C426 81 A149 D921") + HERD.encode() + b"abc"
+    made = packs.block(ULID, "herd", "k", b"abc")
+    assert (made[32:], len(value), len(made)) == (value, 53, 85)
+    write_block("herd", HELD, b"abc", 85)
+    write_block("empty", HELD, b"", 82)
+    for n, count in [
+        (1, 83),
+        (127, 209),
+        (128, 211),
+        (255, 338),
+        (256, 340),
+        (65535, 65619),
+        (65536, 65622),
+    ]:
+        write_long_block("of %d bytes" % n, HELD, n, count)
+    write_long_block("of 65536 bytes behind others", HELD, 65536, 4000 + 65622, used=4000)
+    # The widths of the text, and at 250 and 251 of the primary part.
+    for n in (30, 31, 32, 250, 251, 255, 256, 1053):
+        write_block("with a text of %d bytes" % n, Held(ULID, "b", "o" * (n - 29)), b"abc")
+    longest = Held("Z" * 26, "b" * 63, "o" * 1024)
+    write_block("with the longest identifier", longest, b"abc")
+    write_block("with slashes in the object", Held(OTHER, "b:", "//a/"), b"/")
+    write_block("with bytes that are no UTF-8", Held(ULID, "\udcff\\", "\udcfe \0"), b"\0\xff")
+
+
+def written_parts():
+    map = {"b": "herd", "o": "k", "v": ULID}
+    whole = {**map, "???": OTHER}
+    version, delete, block = item(map), item(whole), item({"I": HERD})
+    write_version("least", version, 32 + 5 + 41)
+    write_version("delete marker", item({**map, "d": True}))
+    write_version("of a delete's part", delete)
+    write_delete("least", delete, 32 + 5 + 72)
+    write_delete("in reverse", item(dict(reversed(whole.items()))))
+    write_delete("with d and I", item({**whole, "d": 5, "I": NIL}))
+    write_delete("of a version's part", version, 20)
+    for write, part in [(write_version, version), (write_delete, delete)]:
+        given = map if write is write_version else whole
+        wide = {sized(0xDB, 4, len(key), key.encode()): x for key, x in given.items()}
+        write("in wide forms", sized(0xDF, 4, len(given), item(wide)[1:]))
+        for n in (255, 256):
+            part_of = item({**given, "x": b"p" * (n - len(part) - 4)})
+            assert len(part_of) == n
+            write("part of %d bytes" % n, part_of, 32 + 3 + (2 if n < 256 else 3) + n)
+        write("depth 16", item({**given, "x": lists(15)}))
+        write("longest names", item({**given, "b": "b" * 63, "o": "o" * 1024}))
+        for name, broken in [
+            ("empty part", b""),
+            ("cut", part[:-1]),
+            ("a byte left over", part + b"\x00"),
+            ("depth 17", item({**given, "x": lists(16)})),
+            ("a block's part", block),
+            ("no map", item([given])),
+            ("no bucket", item({key: x for key, x in given.items() if key != "b"})),
+            ("bucket of 64", item({**given, "b": "b" * 64})),
+            ("bucket with a slash", item({**given, "b": "he/rd"})),
+            ("object empty", item({**given, "o": ""})),
+            ("object of 1025", item({**given, "o": "o" * 1025})),
+            ("object is bytes", item({**given, "o": b"k"})),
+            ("ULID with a small letter", item({**given, "v": ULID[:25] + "a"})),
+        ]:
+            write(name, broken, 20)
+        write("empty part, no room", b"", 20, room=0)
+    write_version("d is nil", item({**map, "d": NIL}), 20)
+    for name, by in [("of 25 characters", ULID[:25]), ("with a small letter", ULID[:25] + "a")]:
+        write_delete("??? " + name, item({**map, "???": by}), 20)
+    write_delete("??? is bytes", item({**map, "???": OTHER.encode()}), 20)
+
+
+def written_deletes():
+    names = bytes.fromhex("A162 A4") + b"herd" + bytes.fromhex("A16F A1") + b"k"
+    ulids = bytes.fromhex("A176 BA") + ULID.encode() + b"\xa3???\xba" + OTHER.encode()
+    made = packs.version_delete(ULID, "herd", "k", OTHER)
+    assert made[32:] == bytes.fromhex("81 A165 C448 84") + names + ulids
+    write_delete_of("herd", HELD, OTHER, 109)
+    write_delete_of("by its own ULID", HELD, ULID, 109)
+    # The widths of the texts, and at 183 and 184 of the primary part.
+    for n in (31, 32, 183, 184, 255, 256, 1024):
+        write_delete_of("object of %d" % n, Held(ULID, "herd", "o" * n), OTHER)
+    for n in (1, 31, 32, 63):
+        write_delete_of("bucket of %d" % n, Held(ULID, "b" * n, "k"), OTHER)
+    write_delete_of("longest identifier", Held("Z" * 26, "b" * 63, "o" * 1024), "Z" * 26)
+    write_delete_of("bytes that are no UTF-8", Held(ULID, "\udcff\\", "\udcfe \0"), OTHER)
+    for name, ulid in [*ULIDS[:-1], ("with byte B0", ULID[:25] + "\udcb0")]:
+        write_delete_of("delete ULID " + name, HELD, ulid, 20)
+    write_delete_of("delete ULID composite", HELD, HERD, 20)
+    write_delete_of("delete ULID empty, no room", HELD, "", 20, room=0)
+
+
+def not_admitted():
+    for name, id in [
+        ("bucket of 0", Held(ULID, "", "k")),
+        ("bucket of 64", Held(ULID, "b" * 64, "k")),
+        ("bucket of 2^64-1", Held(ULID, "b" * 63, "k", (2**64 - 1, 1))),
+        ("bucket with a slash", Held(ULID, "he/rd", "k")),
+        ("bucket is a slash", Held(ULID, "/", "k")),
+        ("object of 0", Held(ULID, "herd", "")),
+        ("object of 1025", Held(ULID, "herd", "o" * 1025)),
+        ("object of 2^64-1", Held(ULID, "herd", "o" * 1024, (4, 2**64 - 1))),
+        ("ULID with byte B0", Held(ULID[:25] + "\udcb0", "herd", "k")),
+        *[("ULID " + x, Held(u, "herd", "k")) for x, u in ULIDS[:-1] if len(u) == 26],
+    ]:
+        write_block(name, id, b"abc", 20)
+        write_delete_of(name, id, OTHER, 20)
+    broken = Held(ULID, "herd", "")
+    write_block("object of 0, no room", broken, b"", 20, room=0)
+    write_delete_of("object of 0, no room", broken, OTHER, 20, room=0)
+
+
+def rooms():
+    map = {"b": "herd", "o": "k", "v": ULID}
+    version, delete = item(map), item({**map, "???": OTHER})
+    for write, given, n in [
+        (write_block, (HELD, b"abc"), 85),
+        (write_version, (version,), 78),
+        (write_delete, (delete,), 109),
+        (write_delete_of, (HELD, OTHER), 109),
+    ]:
+        for name, used, room, wanted in [
+            ("exactly long enough", 0, n, n),
+            ("one short", 0, n - 1, 19),
+            ("no room", 0, 0, 19),
+            ("exactly long enough behind others", 1000, 1000 + n, 1000 + n),
+            ("one short behind others", 1000, 1000 + n - 1, 19),
+            ("count of the room", n, n, 19),
+            ("count above the room", n + 1, n, 19),
+            ("at the buffer's end", BUFFER - n, BUFFER, BUFFER),
+            ("one past the buffer's end", BUFFER - n + 1, BUFFER, 19),
+            ("up to the limit", LIMIT - n, BUFFER, 19),
+            ("one past the limit", LIMIT - n + 1, BUFFER, 20),
+            ("count of the limit", LIMIT, BUFFER, 20),
+            ("count of 2^32", LIMIT + 1, BUFFER, 20),
+            ("count of 2^63", 2**63, 0, 20),
+            ("count that a sum brings to 0", 2**64 - n, BUFFER, 20),
+            ("count of 2^64-1", 2**64 - 1, 0, 20),
+        ]:
+            write(name, *given, wanted, used=used, room=room)
+
+
+def written_packs():
+    """Records one after another; 001:584 gives 101 bytes for each of its blocks."""
+    id = Held("7YF1QJW74PNYV552JB3YPAJJX1", "bucket", "object")
+    for k in range(3):
+        data = b"block %d data" % (k + 1)
+        write_block("%d of 001:581-583" % (k + 1), id, data, 101 * (k + 1), used=101 * k)
+    map = {"b": "bucket", "o": "object", "v": "7YF1QTCNCDN7FYSQFD2PFH2DCS"}
+    part = item(map)
+    write_version("of 001:822 behind them", part, 303 + 85, used=303)
+    write_delete("behind them", item({**map, "???": OTHER}), 388 + 116, used=388)
+    write_block("not admitted behind them", Held(ULID, "", ""), b"", 20, used=504)
+    write_delete_of("made behind them", id, OTHER, 504 + 116, used=504)
+    write_version("too long behind them", part, 19, used=620, room=620 + 84)
+    write_version("again behind them", part, 620 + 85, used=620)
+    pack = bytes(buffer[:705])
+    for place in (0, 101, 202, 303, 388, 504, 620):
+        at("written pack, %d" % place, place, pack)
+
+
 def main():
     for section in [
         herd_block,
@@ -846,10 +1099,16 @@ def main():
         deletes,
         records,
         places,
+        written_blocks,
+        written_parts,
+        written_deletes,
+        not_admitted,
+        rooms,
+        written_packs,
     ]:
         section()
     size = sum(map(len, inputs))
-    assert size <= BUFFER, "%d bytes are more than the program reads" % size
+    assert size <= INPUT, "%d bytes are more than the program reads" % size
     for name, lines in [("stdin", inputs), ("stdout", outputs)]:
         path, made = os.path.join(CRATE, name), "".join(lines)
         if sys.argv[1:] != ["--check"]:

@@ -1,5 +1,5 @@
-// Runs vectors through the crates identifier, value, primary and records. A line of standard input is
-// `KIND HEX | NAME: EXPECTED`; a line of standard output `NAME: EXPECTED, FOUND`.
+// Runs vectors through the crates identifier, value, primary, records and writer. A line of standard
+// input is `KIND HEX | NAME: EXPECTED`; a line of standard output `NAME: EXPECTED, FOUND`.
 ghost use Prim.Native.Nat.{_≤_, _<_};
 ghost use lib.ListN.{length};
 use crate::slices::after;
@@ -11,6 +11,7 @@ use libc::STDIN_FILENO;
 mod readings;
 mod show;
 mod slices;
+mod writings;
 
 // ---- bytes written in hex
 
@@ -62,19 +63,23 @@ fn decode(text: &[u8], out: &mut [u8]) -> usize {
 
 // ---- the lines
 
-fn find_and_show(kind: &[u8], hex: &[u8]) {
+fn find_and_show(kind: &[u8], hex: &[u8], buffer: &mut [u8]) {
     let mut bytes = [0u8; 8192];
     let n = decode(hex, &mut bytes);
-    readings::run(kind, before(&bytes, n));
+    if endian::same_bytes(before(kind, 6), b"write_") {
+        writings::run(kind, before(&bytes, n), buffer);
+    } else {
+        readings::run(kind, before(&bytes, n));
+    }
 }
 
-fn line(s: &[u8]) {
+fn line(s: &[u8], buffer: &mut [u8]) {
     let bar = find(s, b'|');
     let vector = before(s, bar);
     let space = find(vector, b' ');
     show::say(after(after(s, bar), 0));
     show::say(b", ");
-    find_and_show(before(vector, space), after(vector, space));
+    find_and_show(before(vector, space), after(vector, space), buffer);
     show::say(b"\n");
 }
 
@@ -87,17 +92,19 @@ fn line_length(s: &[u8]) -> usize
     if n < s.len() { n + 1 } else { s.len() }
 }
 
-fn lines(input: &[u8]) {
+fn lines(input: &[u8], buffer: &mut [u8]) {
     let mut at = 0;
     while at < input.len() {
         let n = line_length(&input[at..]);
-        line(part(input, at, n - 1));
+        line(part(input, at, n - 1), buffer);
         at += n;
     }
 }
 
 fn main() {
-    let mut buffer = [0u8; 262144];
-    let n = io::read_full(STDIN_FILENO, &mut buffer);
-    lines(before(&buffer, n));
+    let mut input = [0u8; 524288];
+    // What the kinds that write put their records into.
+    let mut buffer = [0xa5u8; 70000];
+    let n = io::read_full(STDIN_FILENO, &mut input);
+    lines(before(&input, n), &mut buffer);
 }

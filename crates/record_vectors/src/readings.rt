@@ -111,7 +111,7 @@ fn say_refusal_at(number: u8, place: usize) {
     say_number(place);
 }
 
-fn at_place(pack: &[u8], place: usize) {
+pub(crate) fn at_place(pack: &[u8], place: usize) {
     match records::read_at(pack, place) {
         AtPlace::Record { record, start, len } => say_placed(pack, record, start, len),
         AtPlace::Outside => say_refusal(20),

@@ -26,12 +26,16 @@ fn say_byte(b: u8) {
     }
 }
 
-fn say_bytes(s: &[u8]) {
+pub(crate) fn say_bytes(s: &[u8]) {
     let mut i = 0;
     while i < s.len() {
         say_byte(s[i]);
         i += 1;
     }
+}
+
+pub(crate) fn say_hash(s: &[u8]) {
+    io::print_hex(STDOUT_FILENO, xxh64::xxh64(s), 16);
 }
 
 // A text with its length before it.

@@ -27,6 +27,11 @@ pub(crate) fn after(s: &[u8], n: usize) -> &[u8] {
     }
 }
 
+// What stands from n on.
+pub(crate) fn from(s: &[u8], n: usize) -> &[u8] {
+    if n <= s.len() { &s[n..] } else { &s[0..0] }
+}
+
 // The bytes at a place; none, where they do not lie inside.
 pub(crate) fn part(s: &[u8], start: usize, len: usize) -> &[u8] {
     if s.len() < start {

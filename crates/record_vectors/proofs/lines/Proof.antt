@@ -1,15 +1,16 @@
--- `record_vectors::lines` meets its contract: each line is passed over whole.
+-- `record_vectors::lines` meets its contract: each line is passed over whole, and the buffer keeps its length.
 use borrow.Author.Needs.{needs}
 use Prim.Native.Nat.{_-_, _≤_}
 use lib.ListN.{length}
+use mathlib.Core.Path.{_≡_}
 use Rattle.record_vectors.proofs.lines.Statement.{statement}
 use Rattle.record_vectors.proofs.lines.Tie as tie
 
 abbrev Inv-loop : tie.InvT-loop
-Inv-loop input at₀ at = at ≤ length input
+Inv-loop input buffer₀ at₀ buffer at = (at ≤ length input) × (length buffer ≡ length buffer₀)
 
 abbrev μ-loop : tie.MeasureT-loop
-μ-loop input at₀ at = length input - at
+μ-loop input buffer₀ at₀ buffer at = length input - at
 
 loop-holds : tie.Need-loop-holds Inv-loop μ-loop
 loop-holds c = search needs
@@ -44,6 +45,9 @@ loop-less c = search needs
 loop-again : tie.Need-loop-again Inv-loop μ-loop
 loop-again c = search needs
 
+same-length : tie.Need-same-length Inv-loop μ-loop
+same-length c = search needs
+
 returns : tie.Need-returns Inv-loop μ-loop
 returns c = search needs
 
@@ -64,4 +68,5 @@ lines-spec =
     add-at
     loop-less
     loop-again
+    same-length
     returns)
