@@ -3,9 +3,9 @@
 
 Written from document 01, docs/FORMAT.md and document 001, and not from the definitions that are
 proved. What a vector is to give is said twice here: by the plain reader of this file, and by hand,
-where it is a refusal or stands in the documents. The same for what is written. Without arguments the script writes the program's
-stored stdin and stdout; with --check it compares them. That the program prints this stdout is
-checked by rt.
+where it is a refusal or stands in the documents; of calls of the writer by the plain writer, and by
+hand. Without arguments the script writes the program's stored stdin and stdout; with --check it
+compares them. That the program prints this stdout is checked by rt.
 """
 import os
 import sys
@@ -288,21 +288,23 @@ class Held(namedtuple("Held", "ulid bucket object lengths", defaults=[None])):
         return [ulid, *map(eight, lengths), bucket[:63], object[:1024]]
 
 
-def admitted(read, *given):
+def outcome(answer, *given):
+    """The answer, and whether it is a refusal."""
     try:
-        read(*given)
-        return True
-    except Refusal:
-        return False
+        return answer(*given), False
+    except Refusal as refusal:
+        return str(refusal), True
 
 
 def held_record(made, id, *more):
-    right = id.lengths is None and admitted(identity, *id.bytes())
+    _, refused = outcome(identity, *id.bytes())
+    right = id.lengths is None and not refused
     return made(id.ulid, id.bucket, id.object, *more) if right else None
 
 
 def part_record(tag, read, part):
-    return record(tag, item({"e": bytes(part)})) if admitted(read, part) else None
+    _, refused = outcome(read, part)
+    return None if refused else record(tag, item({"e": bytes(part)}))
 
 
 # ---- the vectors
@@ -321,10 +323,7 @@ inputs, outputs, names = [], [], set()
 
 def vector(kind, name, data, wanted=None):
     """wanted: what is to be refused, by its number, or the whole answer; else that it is read."""
-    try:
-        found, refused = READERS[kind](data), False
-    except Refusal as refusal:
-        found, refused = str(refusal), True
+    found, refused = outcome(READERS[kind], data)
     right = not refused if wanted is None else found == str(wanted)
     assert right, "%s %s: wanted %s, found %s" % (kind, name, wanted or "a reading", found)
     cut = {"record": 2, "at": 8}.get(kind, 0)
@@ -345,10 +344,7 @@ def at(name, place, pack, wanted=None):
 
 def call(kind, name, made, shown, wanted=None, used=0, room=BUFFER):
     """A call of the writer. wanted: the count or the refusal; else that it is written."""
-    try:
-        found, refused = written(made, used, room), False
-    except Refusal as refusal:
-        found, refused = str(refusal), True
+    found, refused = outcome(written, made, used, room)
     right = not refused if wanted is None else found.split()[0] == str(wanted)
     assert right, "%s %s: wanted %s, found %s" % (kind, name, wanted or "a record", found)
     found += " buffer %016x" % xxh64(buffer)
@@ -366,6 +362,14 @@ def write_long_block(name, id, n, *rest, **more):
 
 def write_version(name, part, *rest, **more):
     call("version", name, part_record(b"vr", read_version, part), [part], *rest, **more)
+
+
+def write_long_version(name, map, n, *rest, **more):
+    """n: the length of the primary part, which a key of its own fills."""
+    filled = n - len(item({**map, "x": sized(0xC6, 4, 0)}))
+    front = item({**map, "x": sized(0xC6, 4, filled)})
+    made = part_record(b"vr", read_version, front + b"d" * filled)
+    call("long_version", name, made, [eight(n), front], *rest, **more)
 
 
 def write_delete(name, part, *rest, **more):
@@ -958,6 +962,8 @@ def written_parts():
     write_version("least", version, 32 + 5 + 41)
     write_version("delete marker", item({**map, "d": True}))
     write_version("of a delete's part", delete)
+    for n, count in [(65535, 65573), (65536, 65576)]:
+        write_long_version("part of %d bytes" % n, map, n, count)
     write_delete("least", delete, 32 + 5 + 72)
     write_delete("in reverse", item(dict(reversed(whole.items()))))
     write_delete("with d and I", item({**whole, "d": 5, "I": NIL}))

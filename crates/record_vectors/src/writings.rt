@@ -64,16 +64,25 @@ fn given(s: &[u8]) -> &[u8] {
     from(s, 42 + bucket_size(s) + object_size(s))
 }
 
-// A block of so many bytes, more than a vector holds.
+// A block of so many bytes `d`, more than a vector holds.
 fn long_block(out: &mut [u8], used: usize, s: &[u8]) -> Written {
     let content = [b'd'; 65536];
     let n = number(given(s), 0);
     writer::write_block(out, used, identifier_in(s), before(&content, n))
 }
 
+// A version whose primary part has so many bytes: those that are given, and then `d` throughout.
+fn long_version(out: &mut [u8], used: usize, s: &[u8]) -> Written {
+    let mut content = [b'd'; 65536];
+    let _ = endian::write_bytes(&mut content, 0, from(s, 8));
+    writer::write_version(out, used, before(&content, number(s, 0)))
+}
+
 fn written_part(kind: &[u8], out: &mut [u8], used: usize, s: &[u8]) -> Written {
     if endian::same_bytes(kind, b"write_version") {
         writer::write_version(out, used, s)
+    } else if endian::same_bytes(kind, b"write_long_version") {
+        long_version(out, used, s)
     } else {
         writer::write_delete(out, used, s)
     }
