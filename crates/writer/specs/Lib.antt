@@ -2,8 +2,3 @@ pub mod Values
 pub mod Putting
 pub mod Writing
 pub mod Limits
-pub mod Encoded
-pub mod Meaning
-pub mod Calls
-pub mod Refusals
-pub mod Shortest

@@ -20,9 +20,9 @@ use Rattle.records.specs.Record.{versionTag, versionDeleteTag, isKnown, Content
 use Rattle.records_model.specs.Record.{RecordHeld, recordIn, withHeld}
 use Rattle.records_model.specs.Written as values
 use Rattle.records_model.specs.Written.{heldAlone, heldWith, plain-reads-back, block-reads-back, delete-reads-back}
 use Rattle.writer.specs.Values.{blockHeader, blockPart, blockValue, partValue, deletePart}
 use Rattle.writer.specs.Writing.{Item, block, version, versionDelete, deletion, tagOf, valueOf, admitted}
-use Rattle.writer.specs.Encoded.{part-value-encodes, block-header-encodes, block-part-encodes, IdentityBytes, delete-part-encodes}
+use Rattle.writer_model.specs.Encoded.{part-value-encodes, block-header-encodes, block-part-encodes, IdentityBytes, delete-part-encodes}
 
 -- ---- the meaning: primary part, data, identifier, and delete flag or delete identifier
 

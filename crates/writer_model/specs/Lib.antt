@@ -1,0 +1,5 @@
+pub mod Encoded
+pub mod Meaning
+pub mod Calls
+pub mod Refusals
+pub mod Shortest
