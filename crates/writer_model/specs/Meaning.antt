@@ -22,6 +22,7 @@ use Rattle.records_model.specs.Written as values
 use Rattle.records_model.specs.Written.{heldAlone, heldWith, plain-reads-back, block-reads-back, delete-reads-back}
 use Rattle.writer.specs.Values.{blockHeader, blockPart, blockValue, partValue, deletePart}
 use Rattle.writer.specs.Writing.{Item, block, version, versionDelete, deletion, tagOf, valueOf, admitted}
+use Rattle.writer.specs.Limits.{content-within}
 use Rattle.writer_model.specs.Encoded.{part-value-encodes, block-header-encodes, block-part-encodes, IdentityBytes, delete-part-encodes}
 
 -- ---- the meaning: primary part, data, identifier, and delete flag or delete identifier
@@ -40,10 +41,6 @@ AreBytes (versionDelete p) = AllBytes p
 AreBytes (deletion i u) = IdentityBytes i × AllBytes u
 
 -- ---- lengths
-
-part-shorter : (p : List ℕ) → length p ≤ length (partValue p)
-unfolding partValue
-part-shorter p = rw length-append (omega arith)
 
 block-longer : (i : Identity) (d : List ℕ) → length (blockPart i) + length d ≤ length (blockValue i d)
 unfolding blockValue
@@ -76,7 +73,7 @@ module _ (limit : ℕ) (small : limit < 2 ^ 32) where
 
   module _ (p : List ℕ) (bytes : AllBytes p) (l : length (partValue p) ≤ limit) where
     part-value : Encodes (values.plainHeader p) (partValue p)
-    part-value = part-value-encodes p bytes (omega (arith, part-shorter p))
+    part-value = part-value-encodes p bytes (omega (arith, content-within (version p)))
 
     part-reads : (tag : ℕ) (c : Contents) → isKnown tag ≡ true → contents tag p ≡ read c → recordIn (partValue p) (readRecord limit tag (partValue p)) ≡ read (record { held = heldAlone p; contents = c })
     part-reads tag c known reads = plain-reads-back limit tag c known reads part-value
