@@ -8,4 +8,5 @@ pub mod Packs
 pub mod Deletion
 pub mod Order
 pub mod Bytes
+pub mod Answers
 pub mod Examples

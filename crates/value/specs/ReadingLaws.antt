@@ -161,7 +161,7 @@ parts-inside limit s t e =
 
 -- ---- what the parts hold
 
-within-front : (a b n : ℕ) (s : List ℕ) → a + b ≤ n → n ≤ length s → take b (drop a (take n s)) ≡ take b (drop a s)
+pub within-front : (a b n : ℕ) (s : List ℕ) → a + b ≤ n → n ≤ length s → take b (drop a (take n s)) ≡ take b (drop a s)
 within-front a b n s h w =
     let l : length (take n s) ≡ n = length-take-le n s w in
     let p : a ≤ length (take n s) = omega arith in

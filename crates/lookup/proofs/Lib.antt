@@ -1,0 +1,7 @@
+mod Places
+mod Parts
+mod Visiting
+mod Naming
+mod Offering
+mod Walking
+mod Searching

@@ -1,0 +1,116 @@
+-- What the answers of the code say: document 01's numbers, and the contents at the places told.
+use Prim.Native.Nat.{ℕ, _+_, _≤_, _<_}
+use mathlib.Core.Bool.{Bool}
+use mathlib.Core.List.{List, _∷_}
+use mathlib.Core.Option.{Option, none, some}
+use mathlib.Core.Path.{_≡_}
+use lib.ListN.{length, take, drop}
+use Rattle.tlv.specs.Found as tlv
+use Rattle.pack.specs.Reading.{Ending, whole, refused}
+use Rattle.primary.specs.Answers.{textsIn, AllInside}
+use Rattle.primary.specs.declared.Text.{Text}
+use Rattle.primary.specs.declared.Texts.{Texts}
+use Rattle.records.specs.Answers as records
+use Rattle.records.specs.declared.Kind as records-kind
+use Rattle.records.specs.declared.Kind.the-variants as kind-answer
+use Rattle.lookup.specs.Current.{Role, version, deletion, other, unreadable, Placed, Version, Answer, nothing, found, refusedAt, alone}
+use Rattle.lookup.specs.Walk.{placedFrom, Checked}
+use Rattle.lookup.specs.declared.Role as declared-role
+use Rattle.lookup.specs.declared.Role.the-variants as role-answer
+use Rattle.lookup.specs.declared.Visited.{Visited}
+use Rattle.lookup.specs.declared.Version as declared-version
+use Rattle.lookup.specs.declared.Candidate.{Candidate}
+use Rattle.lookup.specs.declared.Candidate.the-variants as candidate-answer
+use Rattle.lookup.specs.declared.Readable.{Readable}
+use Rattle.lookup.specs.declared.Readable.the-variants as readable-answer
+use Rattle.lookup.specs.declared.Found.{Found}
+use Rattle.lookup.specs.declared.Found.the-variants as found-answer
+
+-- ---- from places of a part to places of the pack
+
+abbrev pub shiftText : ℕ → Text → Text
+shiftText by t = record { start = by + t .start; len = t .len }
+
+abbrev pub shiftTexts : ℕ → Texts → Texts
+shiftTexts by t = record { ulid = shiftText by (t .ulid); bucket = shiftText by (t .bucket); object = shiftText by (t .object) }
+
+-- all of them end within n bytes
+pub record AllFrom (by : ℕ) (t : Texts) (n : ℕ) : Type 0 where
+  pub ulid : by + (t .ulid .start + t .ulid .len) ≤ n
+  pub bucket : by + (t .bucket .start + t .bucket .len) ≤ n
+  pub object : by + (t .object .start + t .object .len) ≤ n
+
+-- what a record with this identifier is, by its kind
+abbrev pub roleFor : ℕ → Texts → records-kind.Kind → declared-role.Role
+roleFor by t kind-answer.Block = role-answer.Other
+roleFor by t (kind-answer.Version deleted) = role-answer.Version (shiftTexts by t) deleted
+roleFor by t (kind-answer.VersionDelete id) = role-answer.Deletion (shiftTexts by t)
+
+-- ---- contents at places of the pack
+
+abbrev pub roleIn : List ℕ → declared-role.Role → Role
+roleIn s (role-answer.Version t deleted) = version (textsIn s t) deleted
+roleIn s (role-answer.Deletion t) = deletion (textsIn s t)
+roleIn s role-answer.Other = other
+roleIn s (role-answer.Unreadable f) = unreadable (records.numberOf f)
+
+-- why a record cannot be read, if it cannot
+abbrev pub faultAt : ℕ → declared-role.Role → Ending
+faultAt at (role-answer.Version t deleted) = whole
+faultAt at (role-answer.Deletion t) = whole
+faultAt at role-answer.Other = whole
+faultAt at (role-answer.Unreadable f) = refused (records.numberOf f) at
+
+-- the value of a record at a place
+abbrev pub valueIn : List ℕ → ℕ → ℕ → List ℕ
+valueIn s at n = take n (drop 32 (drop at s))
+
+abbrev pub placedIn : List ℕ → ℕ → Visited → Placed
+placedIn s at v = record { start = at; role = roleIn s (v .role); value = valueIn s at (v .len) }
+
+abbrev pub versionIn : List ℕ → declared-version.Version → Version
+versionIn s v = record { identifier = textsIn s (v .identifier); deleteFlag = v .deleted; value = valueIn s (v .start) (v .len); start = v .start }
+
+abbrev pub candidateIn : List ℕ → Candidate → Option Version
+candidateIn s candidate-answer.None = none
+candidateIn s (candidate-answer.Version v) = some (versionIn s v)
+
+-- ---- answers
+
+abbrev pub endingOf : Readable → Ending
+endingOf readable-answer.All = whole
+endingOf (readable-answer.Fault f at) = refused (records.numberOf f) at
+
+abbrev pub foundOf : List ℕ → Found → Answer
+foundOf s found-answer.Nothing = nothing
+foundOf s (found-answer.Current v) = found (versionIn s v)
+foundOf s found-answer.Inadmissible = alone 20
+foundOf s found-answer.TooLong = refusedAt 1 0
+foundOf s (found-answer.Fault f at) = refusedAt (tlv.numberOf f) at
+foundOf s (found-answer.Unreadable f at) = refusedAt (records.numberOf f) at
+
+-- ---- the places told lie inside the pack
+
+pub record RoleInside (s : List ℕ) (r : declared-role.Role) : Type 0 where
+  pub version : (t : Texts) (deleted : Bool) → r ≡ role-answer.Version t deleted → AllInside s t
+  pub deletion : (t : Texts) → r ≡ role-answer.Deletion t → AllInside s t
+
+pub record VersionInside (s : List ℕ) (v : declared-version.Version) : Type 0 where
+  pub identifier : AllInside s (v .identifier)
+  pub value : v .start + 32 + v .len ≤ length s
+
+pub record CandidateInside (s : List ℕ) (c : Candidate) : Type 0 where
+  pub version : (v : declared-version.Version) → c ≡ candidate-answer.Version v → VersionInside s v
+
+pub record FoundInside (s : List ℕ) (r : Found) : Type 0 where
+  pub version : (v : declared-version.Version) → r ≡ found-answer.Current v → VersionInside s v
+
+-- ---- a record of a checked pack: what it is, and where the next one stands
+
+pub record Visits (limit : ℕ) (s : List ℕ) (at : ℕ) (v : Visited) : Type 0 where
+  pub first : placedFrom limit s at ≡ placedIn s at v ∷ placedFrom limit s (v .next)
+  pub checked : Checked s (v .next)
+  pub forward : at < v .next
+  pub inside : v .next ≤ length s
+  pub texts : RoleInside s (v .role)
+  pub value : at + 32 + v .len ≡ v .next
