@@ -13,7 +13,7 @@ use Rattle.primary.specs.declared.Texts.{Texts}
 use Rattle.records.specs.Answers as records
 use Rattle.records.specs.declared.Kind as records-kind
 use Rattle.records.specs.declared.Kind.the-variants as kind-answer
-use Rattle.lookup.specs.Current.{Role, version, deletion, other, unreadable, Placed, Version, Answer, nothing, found, refusedAt, alone}
+use Rattle.current_version.specs.Current.{Role, version, deletion, other, unreadable, Placed, Version, Answer, nothing, found, refusedAt, alone}
 use Rattle.lookup.specs.Walk.{placedFrom, Checked}
 use Rattle.lookup.specs.declared.Role as declared-role
 use Rattle.lookup.specs.declared.Role.the-variants as role-answer

@@ -1,12 +1,3 @@
-pub mod Current
-pub mod Roles
-pub mod Best
-pub mod Exactly
 pub mod Walk
 pub mod Search
-pub mod Packs
-pub mod Deletion
-pub mod Order
-pub mod Bytes
 pub mod Answers
-pub mod Examples

@@ -15,11 +15,11 @@ use Rattle.identifier.specs.Order.{less-irreflexive, less-transitive}
 use Rattle.identifier.specs.Ulid.{alphabet, isCharacter, isUlid}
 use Rattle.identifier.specs.Identity.{Identity, isBucket, isObject, isValid}
 use Rattle.identifier.specs.Held.{hasName}
-use Rattle.lookup.specs.Current.{Placed, valueOf, placed, Version, versionOf, filtered, best, isDeleted, isLive, current}
-use Rattle.lookup.specs.Roles.{version-told, version-role}
+use Rattle.current_version.specs.Current.{Placed, valueOf, placed, Version, versionOf, filtered, best, isDeleted, isLive, current}
+use Rattle.current_version.specs.Roles.{version-told, version-role}
 use Rattle.lookup.specs.Walk.{placedFrom}
-use Rattle.lookup.specs.Best.{either, clash, not-so, ulidOf, Passes, Best, best-member, best-greatest, best-same, best-none, best-found, found-best, none-best}
-use Rattle.lookup.specs.Exactly.{same-name, has-name}
+use Rattle.current_version.specs.Best.{either, clash, not-so, ulidOf, Passes, Best, best-member, best-greatest, best-same, best-none, best-found, found-best, none-best}
+use Rattle.current_version.specs.Exactly.{same-name, has-name}
 
 -- below a bound: of the versions of this name, deleted or not, the best; and the current one
 unfoldable pub isBelow : List ℕ → List ℕ → List ℕ → Identity → Bool

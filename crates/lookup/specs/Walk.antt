@@ -13,7 +13,7 @@ use Rattle.tlv.specs.Passing.{passAt, pass-found}
 use Rattle.pack.specs.Reading.{Reading, whole, refused, records, reading, records-end, records-fault, records-on}
 use Rattle.msgpack.specs.HeadLaws.{absurd-numbers}
 use Rattle.records.specs.Record.{valueAt}
-use Rattle.lookup.specs.Current.{Placed, placedBy, placed, answerIn, isName, lookup}
+use Rattle.current_version.specs.Current.{Placed, placedBy, placed, answerIn, isName, lookup}
 
 unfoldable pub placedFrom : ℕ → List ℕ → ℕ → List Placed
 placedFrom limit s at = map (placed limit s) (records at 0 (drop at s) .entries)
@@ -23,25 +23,13 @@ abbrev pub Checked : List ℕ → ℕ → Type 0
 Checked s at = records at 0 (drop at s) .ending ≡ whole
 
 module _ (limit : ℕ) (s : List ℕ) where
-  pub accepted-within : reading limit s .ending ≡ whole → length s ≤ limit
-  unfolding reading
-  accepted-within e = go (ltb limit (length s)) refl e
-    where
-      go : (t : Bool) → ltb limit (length s) ≡ t → cond t (record { entries = []; ending = refused 1 0 }) (records 0 0 s) .ending ≡ whole → length s ≤ limit
-      go true p h = absurd-numbers (cc)
-      go false p h = ltb-false limit (length s) p
-
-  accepted-reading : reading limit s .ending ≡ whole → reading limit s ≡ records 0 0 s
-  unfolding reading
-  accepted-reading e = rw (le-ltb limit (length s) (accepted-within e))
-
   -- an accepted pack is walked from its start
   pub walk-start : reading limit s .ending ≡ whole → Checked s 0
-  walk-start e = ap (λ (r : Reading). r .ending) (sym (accepted-reading e)) ∙ e
+  walk-start e = ap (λ (r : Reading). r .ending) (sym (accepted-reading limit s e)) ∙ e
 
   pub lookup-walks : (bucket object : List ℕ) → isName bucket object ≡ true → reading limit s .ending ≡ whole → lookup limit s bucket object ≡ answerIn (placedFrom limit s 0) bucket object
   unfolding lookup placedFrom
-  lookup-walks bucket object name e = rw (name, e, accepted-reading e)
+  lookup-walks bucket object name e = rw (name, e, accepted-reading limit s e)
 
   -- at the end nothing is left
   pub walk-end : (at : ℕ) → length s ≤ at → placedFrom limit s at ≡ []

@@ -1,12 +1,14 @@
 -- When a pack is accepted, and what its reading says. The records of a list, one after the other, are its layouts; where a fault is met, the front
 -- up to it is accepted by itself.
 use Prim.Native.Nat.{ℕ, zero, suc, _+_, _≤_}
+use mathlib.Core.Bool.{Bool, true, false, cond}
 use mathlib.Core.List.{List, [], _∷_, _++_, append-assoc, append-nil}
 use mathlib.Core.Logic.{_↔_, _⊎_, inl, inr, ⊎-elim}
 use mathlib.Core.Path.{_≡_, refl, sym, ap, subst₂, _∙_}
 use native.Mathlib.Nat.{add-zero, zero-add, add-assoc}
 use native.Mathlib.Omega.{arith}
-use borrow.Author.Tests.{le-ltb}
+use borrow.Author.Tests.{le-ltb, ltb-false}
+use lib.Dec.{ltb}
 use lib.ListN.{length, take, drop, length-append, length-drop, length-take, take-append-drop}
 use lib.Seq.{take-at, drop-at, length-take-le}
 use Rattle.endian.specs.Bytes.{AllBytes, drop-bytes}
@@ -28,6 +30,21 @@ entryOf at r = record { start = at; tag = r .tag; length = length (r .value) }
 unfoldable pub entriesOf : ℕ → List Record → List Entry
 entriesOf at [] = []
 entriesOf at (r ∷ rs) = entryOf at r ∷ entriesOf (at + length (layout r)) rs
+
+-- ---- an accepted pack is within the limit, and is its records from the start on
+
+module _ (limit : ℕ) (s : List ℕ) (accepted : reading limit s .ending ≡ whole) where
+  pub accepted-within : length s ≤ limit
+  unfolding reading
+  accepted-within = go (ltb limit (length s)) refl accepted
+    where
+      go : (t : Bool) → ltb limit (length s) ≡ t → cond t (record { entries = []; ending = refused 1 0 }) (records 0 0 s) .ending ≡ whole → length s ≤ limit
+      go true p h = let z : _≡_ {A = ℕ} 0 1 = cc in absurd (omega arith)
+      go false p h = ltb-false limit (length s) p
+
+  pub accepted-reading : reading limit s ≡ records 0 0 s
+  unfolding reading
+  accepted-reading = rw (le-ltb limit (length s) accepted-within)
 
 -- a reading that goes on from these entries
 abbrev pub after : List Entry → Reading → Reading

@@ -13,8 +13,8 @@ use Rattle.identifier.specs.Texts.{less, both}
 use Rattle.identifier.specs.Order.{less-irreflexive}
 use Rattle.identifier.specs.Identity.{Identity, sameIdentity, sameIdentity-refl, sameIdentity-true}
 use Rattle.identifier.specs.Held.{hasName}
-use Rattle.lookup.specs.Current.{Role, version, deletion, other, unreadable, Placed, placed, Version, versionOf, deletes, isDeleted, isLive, current, Answer, nothing, found, refusedAt, alone, unreadableFirst, readability, unlessRefused, answerOf, answerIn, isName, lookup}
-use Rattle.lookup.specs.Best.{either, clash, not-so, neither-less, ulidOf, Passes, best-greatest, best-none, best-found, found-best, none-best}
+use Rattle.current_version.specs.Current.{Role, version, deletion, other, unreadable, Placed, placed, Version, versionOf, deletes, isDeleted, isLive, current, Answer, nothing, found, refusedAt, alone, unreadableFirst, readability, unlessRefused, answerOf, answerIn, isName, lookup}
+use Rattle.current_version.specs.Best.{either, clash, not-so, neither-less, ulidOf, Passes, best-greatest, best-none, best-found, found-best, none-best}
 
 -- ---- the account
 

@@ -11,7 +11,7 @@ use Rattle.endian.specs.Bytes.{AllBytes}
 use Rattle.tlv.specs.Layout.{Record, layout, layouts}
 use Rattle.pack.specs.Reading.{Reading, Ending, whole, reading}
 use Rattle.pack.specs.declared.Entry.{Entry}
-use Rattle.pack.specs.Acceptance.{AllFit, entryOf, entriesOf, layouts-accepted, accepted-exactly}
+use Rattle.pack.specs.Acceptance.{AllFit, entryOf, entriesOf, layouts-accepted, accepted-exactly, accepted-within}
 use Rattle.msgpack.specs.HeadLaws.{absurd-numbers}
 use Rattle.identifier.specs.Texts.{less}
 use Rattle.identifier.specs.Identity.{Identity}
@@ -19,9 +19,8 @@ use Rattle.primary.specs.Parts as primary
 use Rattle.records.specs.Record as records
 use Rattle.records.specs.Record.{readRecord, isRead, canBeRead}
 use Rattle.records.specs.Laws.{value-there}
-use Rattle.lookup.specs.Current.{Role, version, deletion, other, unreadable, roleBy, roleOf, isLookedAt, role, Placed, placedBy, valueOf, placed, Version, versionBy, versionOf, filtered, better, best, isDeleted, isLive, current, Answer, nothing, found, refusedAt, alone, unreadableFirst, readability, answerOf, answerIn, isName, lookup}
-use Rattle.lookup.specs.Walk.{accepted-within}
-use Rattle.lookup.specs.Best.{no-version, same-version, ulidOf, best-same}
+use Rattle.current_version.specs.Current.{Role, version, deletion, other, unreadable, roleBy, roleOf, isLookedAt, role, Placed, placedBy, valueOf, placed, Version, versionBy, versionOf, filtered, better, best, isDeleted, isLive, current, Answer, nothing, found, refusedAt, alone, unreadableFirst, readability, answerOf, answerIn, isName, lookup}
+use Rattle.current_version.specs.Best.{no-version, same-version, ulidOf, best-same}
 
 -- ---- records that stand end to end, from a place on
 

@@ -27,8 +27,8 @@ use Rattle.identifier.specs.Held.{hasName}
 use Rattle.primary.specs.Parts as primary
 use Rattle.primary.specs.Parts.{fills, textAt, textUnder, textsUnder, deletedUnder, ulidOf}
 use Rattle.records.specs.Record.{blockTag, versionTag, versionDeleteTag, isKnown, contents, toldRows, readRecord}
-use Rattle.lookup.specs.Current.{isLookedAt, role, Version, versionOf, filtered, better, best, deletes, isDeleted, isLive, current, Answer, nothing, found, refusedAt, alone, readability, answerIn, isName, lookup}
-use Rattle.lookup.specs.Order.{howOften, SameRecords}
+use Rattle.current_version.specs.Current.{isLookedAt, role, Version, versionOf, filtered, better, best, deletes, isDeleted, isLive, current, Answer, nothing, found, refusedAt, alone, readability, answerIn, isName, lookup}
+use Rattle.current_version.specs.Order.{howOften, SameRecords}
 
 -- ---- records in their shortest forms
 

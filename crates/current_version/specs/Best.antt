@@ -9,7 +9,7 @@ use Rattle.msgpack.specs.HeadLaws.{absurd-numbers}
 use Rattle.identifier.specs.Texts.{less}
 use Rattle.identifier.specs.Order.{less-irreflexive, less-transitive, less-total}
 use Rattle.identifier.specs.Identity.{Identity}
-use Rattle.lookup.specs.Current.{Placed, Version, versionOf, filtered, better, best}
+use Rattle.current_version.specs.Current.{Placed, Version, versionOf, filtered, better, best}
 
 -- ---- a test comes out one way or the other
 

@@ -14,9 +14,9 @@ use Rattle.identifier.specs.Held.{hasName}
 use Rattle.primary.specs.Parts as primary
 use Rattle.records.specs.Record as records
 use Rattle.records.specs.Record.{versionDeleteTag, readRecord, isRead, canBeRead}
-use Rattle.lookup.specs.Current.{Role, version, deletion, other, unreadable, role, versionBy, versionOf, filtered, better, best, deletes, isDeleted, isLive, current, isName, lookup}
-use Rattle.lookup.specs.Roles.{delete-role}
-use Rattle.lookup.specs.Packs.{Readable, SameAnswer, unplaced, same-answers}
+use Rattle.current_version.specs.Current.{Role, version, deletion, other, unreadable, role, versionBy, versionOf, filtered, better, best, deletes, isDeleted, isLive, current, isName, lookup}
+use Rattle.current_version.specs.Roles.{delete-role}
+use Rattle.current_version.specs.Packs.{Readable, SameAnswer, unplaced, same-answers}
 
 -- ---- all `vr` records of one identifier, taken out
 

@@ -14,10 +14,10 @@ use Rattle.identifier.specs.Identity.{Identity}
 use Rattle.primary.specs.Parts as primary
 use Rattle.records.specs.Record as records
 use Rattle.records.specs.Record.{versionDeleteTag, readRecord}
-use Rattle.lookup.specs.Current.{version, role, valueOf, isName, lookup}
-use Rattle.lookup.specs.Packs.{Readable, ReadablePack, SameAnswer, ofEntry, ofRecord, value-standing, rest-standing, tags-and-values, readable-pack, pack-readable}
-use Rattle.lookup.specs.Deletion.{isVersion, takenOut, taken-out-readable, layouts-with, deletion-takes-out}
-use Rattle.lookup.specs.Order.{howOften, SameRecords, OneValue, order-plays-no-part}
+use Rattle.current_version.specs.Current.{version, role, valueOf, isName, lookup}
+use Rattle.current_version.specs.Packs.{Readable, ReadablePack, SameAnswer, ofEntry, ofRecord, value-standing, rest-standing, tags-and-values, readable-pack, pack-readable}
+use Rattle.current_version.specs.Deletion.{isVersion, takenOut, taken-out-readable, layouts-with, deletion-takes-out}
+use Rattle.current_version.specs.Order.{howOften, SameRecords, OneValue, order-plays-no-part}
 
 -- bytes 0 to 31, and the value
 abbrev pub recordBytes : List ℕ → Entry → List ℕ

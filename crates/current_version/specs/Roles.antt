@@ -13,7 +13,7 @@ use Rattle.primary.specs.Exactly.{version-names}
 use Rattle.records.specs.Record as records
 use Rattle.records.specs.Record.{versionTag, versionDeleteTag, readRecord, Contents, contents, ofVersion, ofVersionDelete, primaryIn}
 use Rattle.records.specs.Laws.{read-as}
-use Rattle.lookup.specs.Current.{Role, version, deletion, other, unreadable, roleBy, roleOf, isLookedAt, role, placedBy, Version, versionBy, versionOf}
+use Rattle.current_version.specs.Current.{Role, version, deletion, other, unreadable, roleBy, roleOf, isLookedAt, role, placedBy, Version, versionBy, versionOf}
 
 -- a `vd` that is read names its version identifier
 pub delete-role : (limit : ℕ) (value : List ℕ) (x : records.Record) → readRecord limit versionDeleteTag value ≡ primary.read x → role limit versionDeleteTag value ≡ deletion (x .contents .identifier)

@@ -1,0 +1,2 @@
+// The current version of an object, as definitions and theorems: there is no code here. specs/ defines it, says it once
+// more without computing anything, and has deletion and order as theorems over the bytes of packs.
