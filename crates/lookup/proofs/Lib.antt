@@ -5,3 +5,4 @@ mod Naming
 mod Offering
 mod Walking
 mod Searching
+mod Answering

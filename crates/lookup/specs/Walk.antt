@@ -11,6 +11,7 @@ use Rattle.tlv.specs.Found.{Found, end, found, fault, step, step-none, step-end
 use Rattle.tlv.specs.Stands.{step-stands}
 use Rattle.tlv.specs.Passing.{passAt, pass-found}
 use Rattle.pack.specs.Reading.{Reading, whole, refused, records, reading, records-end, records-fault, records-on}
+use Rattle.pack.specs.Acceptance.{accepted-reading}
 use Rattle.msgpack.specs.HeadLaws.{absurd-numbers}
 use Rattle.records.specs.Record.{valueAt}
 use Rattle.current_version.specs.Current.{Placed, placedBy, placed, answerIn, isName, lookup}
