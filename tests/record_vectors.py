@@ -928,7 +928,9 @@ def main():
         written_packs,
     ]:
         section()
-    store("record_vectors", INPUT, "".join(inputs).encode(), "".join(outputs).encode())
+    stdin, stdout = ("".join(lines).encode() for lines in (inputs, outputs))
+    assert len(stdin) <= INPUT, "%d bytes are more than the program reads" % len(stdin)
+    store("record_vectors", stdin, stdout)
 
 
 main()
