@@ -82,6 +82,29 @@ def item(x):
     return head(len(x), 0x80, 16, [(0xDE, 2), (0xDF, 4)]) + pairs
 
 
+def pairs(*given):
+    """A map of any pairs, keys that come twice included."""
+    return Raw(bytes([0x80 + len(given)]) + b"".join(item(x) for pair in given for x in pair))
+
+
+def sized(first, width, n, content=b""):
+    return Raw(bytes([first]) + (n % 256**width).to_bytes(width, "big") + content)
+
+
+def every_text(s):
+    """A short text in every width."""
+    yield "fixstr", Raw(bytes([0xA0 + len(s)]) + s)
+    for k in range(3):
+        yield "str%d" % (8 << k), sized(0xD9 + k, 1 << k, len(s), s)
+
+
+def lists(depth):
+    return Raw(b"\x91" * (depth - 1) + b"\x90")
+
+
+NIL = Raw(b"\xc0")
+
+
 def header(tag, length, value_hash, version=0, hash_type=8, spare=0):
     """The 32 bytes before a value, with their own hash right."""
     fields = b"\x89TLV\r\n\x1a\n" + length.to_bytes(8, "big") + value_hash.to_bytes(8, "big")

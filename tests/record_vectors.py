@@ -2,254 +2,97 @@
 """tests/record_vectors.py [--check]: makes the vectors of crates/record_vectors.
 
 Written from document 01, docs/FORMAT.md and document 001, and not from the definitions that are
-proved. What a vector is to give is said twice here: by the plain reader of this file, and by hand,
+proved. What a vector is to give is said twice: by the plain reader of tests/reader.py, and by hand,
 where it is a refusal or stands in the documents; of calls of the writer by the plain writer, and by
 hand. Without arguments the script writes the program's stored stdin and stdout; with --check it
 compares them. That the program prints this stdout is checked by rt.
 """
-import os
 import sys
 from collections import namedtuple
 
 sys.dont_write_bytecode = True
 import packs
-from packs import Raw, header, item, record, xxh64
+from packs import NIL, Raw, every_text, header, item, lists, pairs, record, sized, xxh64
+from reader import (
+    LIMIT,
+    Refusal,
+    composite,
+    identifier,
+    is_ulid,
+    outcome,
+    read_block,
+    read_content,
+    read_delete,
+    read_tlv,
+    read_value,
+    read_version,
+)
+from stored import store
 
-CRATE = os.path.join(os.path.dirname(os.path.abspath(__file__)), "..", "crates", "record_vectors")
 INPUT = 524288
 BUFFER = 70000
-LIMIT = 4294967295
 
-# ---- a plain reader by document 01
-
-
-class Refusal(Exception):
-    """A number of the refusal sheet, and for 1 to 8 the place."""
-
-
-Item = namedtuple("Item", "type content end")
-Value = namedtuple("Value", "told primary v c z")
-FIXED = {0xC0: ("nil", None), 0xC2: ("boolean", False), 0xC3: ("boolean", True)}
-SIZED = {0xC4: "bytes", 0xC7: "extension", 0xD9: "text"}
-COUNTED = {0xDC: "list", 0xDE: "map"}
-
-
-class Reader:
-    """Reads items from a place of s on."""
-
-    def __init__(self, s, at=0):
-        self.s, self.at = s, at
-
-    def take(self, n):
-        if len(self.s) - self.at < n:
-            raise Refusal("9")
-        self.at += n
-        return self.s[self.at - n : self.at]
-
-    def number(self, width, signed=False):
-        return int.from_bytes(self.take(width), "big", signed=signed)
-
-    def made(self, type, content):
-        return Item(type, content, self.at)
-
-    def container(self, type, count, depth):
-        if depth > 16:
-            raise Refusal("10")
-        if type == "map":
-            content = [(self.item(depth + 1), self.item(depth + 1)) for _ in range(count)]
-        else:
-            content = [self.item(depth + 1) for _ in range(count)]
-        return self.made(type, content)
-
-    def item(self, depth=1):
-        first = self.number(1)
-        if first < 0x80 or first >= 0xE0:
-            return self.made("integer", first if first < 0x80 else first - 256)
-        if first < 0x90:
-            return self.container("map", first - 0x80, depth)
-        if first < 0xA0:
-            return self.container("list", first - 0x90, depth)
-        if first < 0xC0:
-            return self.made("text", self.take(first - 0xA0))
-        if first == 0xC1:
-            raise Refusal("9")
-        if first in FIXED:
-            return self.made(*FIXED[first])
-        if first in (0xCA, 0xCB):
-            return self.made("float", self.take(4 * (first - 0xC9)))
-        if 0xCC <= first <= 0xD3:
-            width = 1 << (first - 0xCC) % 4
-            return self.made("integer", self.number(width, signed=first >= 0xD0))
-        if 0xD4 <= first <= 0xD8:
-            return self.made("extension", self.take(1 + (1 << first - 0xD4)))
-        if first >= 0xDC:
-            width = 4 if first & 1 else 2
-            return self.container(COUNTED[first & 0xFE], self.number(width), depth)
-        start = max(x for x in SIZED if x <= first)
-        size = self.number(1 << first - start)
-        return self.made(SIZED[start], self.take(size + (start == 0xC7)))
-
-
-def under(map, key):
-    """What stands under a key: the last of its values counts."""
-    values = [value for name, value in map.content if (name.type, name.content) == ("text", key)]
-    return values[-1] if values else None
-
-
-def typed(type, found, number):
-    """What is found, if it is of this type."""
-    if found is None or found.type != type:
-        raise Refusal(number)
-    return found.content
-
-
-def natural(found, absent):
-    if found is None and absent is not None:
-        return absent
-    n = typed("integer", found, "11")
-    if n < 0:
-        raise Refusal("11")
-    return n
+# ---- what is read, as the program prints it
 
 
 def yes(b):
     return "yes" if b else "no"
 
 
-def told_part(start, length, c, z):
-    return "%d %d c %d z %s" % (start, length, c, yes(z))
+def told_part(part):
+    return "%d %d c %d z %s" % (part.start, part.length, part.c, yes(part.z))
 
 
-def read_value(s):
-    """Refusals 9 to 12, or what the value tells, its primary part, and what 14 and 15 ask."""
-    map = Reader(s).item()
-    if map.type != "map":
-        raise Refusal("11")
-    primary = under(map, b"e")
-    part = typed("bytes", primary, "11")
-    c, v = natural(under(map, b"c"), 0), natural(under(map, b"v"), 0)
-    z = under(map, b"z") is not None
-    listed = under(map, b"s")
-    maps = [] if listed is None else typed("list", listed, "11")
-    word, length, c2, z2 = "absent", 0, c, z
-    if len(maps) > 1:
-        raise Refusal("11")
-    for inner in maps:
-        if inner.type != "map":
-            raise Refusal("11")
-        word, length = "secondary", natural(under(inner, b"l"), None)
-        if length > LIMIT:
-            raise Refusal("11")
-        c2, z2 = natural(under(inner, b"c"), c), z or under(inner, b"z") is not None
-    if map.end + length != len(s):
-        raise Refusal("12")
-    first = told_part(primary.end - len(part), len(part), c, z)
-    told = "v %d primary %s %s %s" % (v, first, word, told_part(map.end, length, c2, z2))
-    return Value(told, part, v, c, z)
-
-
-ALPHABET = b"0123456789ABCDEFGHJKMNPQRSTVWXYZ"
-
-
-def is_ulid(s):
-    return len(s) == 26 and all(byte in ALPHABET for byte in s)
+def told_value(value):
+    word = "secondary" if value.listed else "absent"
+    parts = (told_part(value.primary), word, told_part(value.secondary))
+    return "v %d primary %s %s %s" % (value.v, *parts)
 
 
 def printed(s):
     return "".join(chr(b) if 0x21 <= b <= 0x7E and b != 0x5C else "\\x%02x" % b for b in s)
 
 
-def identity(ulid, bucket, object):
-    """The three as the program prints them, if they keep the rules."""
-    right = is_ulid(ulid) and 1 <= len(bucket) <= 63 and b"/" not in bucket
-    if not right or not 1 <= len(object) <= 1024:
-        raise Refusal("18")
-    told = (printed(ulid), len(bucket), printed(bucket), len(object), printed(object))
-    return "%s %d %s %d %s" % told
+def told_identifier(id):
+    name = (len(id.bucket), printed(id.bucket), len(id.object), printed(id.object))
+    return "%s %d %s %d %s" % (printed(id.ulid), *name)
 
 
-def composite(s):
-    bucket, slash, object = s[27:].partition(b"/")
-    if s[26:27] != b":" or not slash:
-        raise Refusal("18")
-    return identity(s[:26], bucket, object)
+def told_block(s):
+    return told_identifier(read_block(s)) + " block"
 
 
-def read_part(s):
-    """The map that fills a primary part."""
-    try:
-        map = Reader(s).item()
-    except Refusal:
-        raise Refusal("16")
-    if map.end != len(s):
-        raise Refusal("16")
-    typed("map", map, "17")
-    return map
+def told_version(s):
+    id, deleted = read_version(s)
+    return told_identifier(id) + " d " + yes(deleted)
 
 
-def texts(map):
-    return [typed("text", under(map, key), "17") for key in (b"v", b"b", b"o")]
+def told_delete(s):
+    id, by = read_delete(s)
+    return told_identifier(id) + " by " + printed(by)
 
 
-def read_block(s):
-    found = under(read_part(s), b"I")
-    if found is not None and found.type == "map":
-        return identity(*texts(found)) + " block"
-    return composite(typed("text", found, "17")) + " block"
-
-
-def read_version(s):
-    map = read_part(s)
-    names, flag = texts(map), under(map, b"d")
-    deleted = False if flag is None else typed("boolean", flag, "17")
-    return identity(*names) + " d " + yes(deleted)
-
-
-def read_delete(s):
-    map = read_part(s)
-    names, by = texts(map), typed("text", under(map, b"???"), "17")
-    told = identity(*names)
-    if not is_ulid(by):
-        raise Refusal("18")
-    return told + " by " + printed(by)
-
-
-def read_record(s):
+def told_record(s):
     """A tag and a value."""
-    kinds = {b"bk": read_block, b"vr": read_version, b"vd": read_delete}
+    kinds = {b"bk": told_block, b"vr": told_version, b"vd": told_delete}
     tag, value = s[:2], read_value(s[2:])
-    coded = value.c != 0 or value.z
-    for number, fault in [("13", tag not in kinds), ("14", value.v != 0), ("15", coded)]:
-        if fault:
-            raise Refusal(number)
-    return kinds[tag](value.primary) + " " + value.told
+    if tag not in kinds:
+        raise Refusal("13")
+    return kinds[tag](read_content(value)) + " " + told_value(value)
 
 
-def read_at(s):
+def told_at(s):
     """A place, in 8 bytes, and a pack. No pack of a vector is so long that 1 applies."""
     place, pack = int.from_bytes(s[:8], "big"), s[8:]
     if place >= len(pack):
         raise Refusal("20")
-    s = pack[place:]
-    length, value = int.from_bytes(s[8:16], "big"), s[32:]
-    value = value[:length]
-    for number, fault in [
-        (2, len(s) < 32),
-        (3, s[:8] != bytes.fromhex("89544C560D0A1A0A")),
-        (4, s[24:25] != b"\x00"),
-        (5, s[27:28] != b"\x08"),
-        (6, s[30:32] != (xxh64(s[:30]) % 65536).to_bytes(2, "big")),
-        (7, length > len(s) - 32),
-        (8, s[16:24] != xxh64(value).to_bytes(8, "big")),
-    ]:
-        if fault:
-            raise Refusal("%d at %d" % (number, place))
-    return read_record(s[25:27] + value) + " value %d %d" % (place + 32, length)
+    tag, value = read_tlv(pack, place)
+    return told_record(tag + value) + " value %d %d" % (place + 32, len(value))
 
 
-def read_identifier(s):
+def told_composite(s):
     try:
-        return "slash %d read %s" % (s.index(b"/", 27), composite(s))
+        return "slash %d read %s" % (s.index(b"/", 27), told_identifier(composite(s)))
     except (Refusal, ValueError):
         raise Refusal("malformed read malformed")
 
@@ -272,7 +115,7 @@ def written(made, used, room):
         raise Refusal("19")
     buffer[used:end] = made
     shown = printed(made) if len(made) < 256 else "%016x" % xxh64(made)
-    return "%d %s reads %s" % (end, shown, read_at(eight(used) + bytes(buffer[:end])))
+    return "%d %s reads %s" % (end, shown, told_at(eight(used) + bytes(buffer[:end])))
 
 
 class Held(namedtuple("Held", "ulid bucket object lengths", defaults=[None])):
@@ -288,16 +131,8 @@ class Held(namedtuple("Held", "ulid bucket object lengths", defaults=[None])):
         return [ulid, *map(eight, lengths), bucket[:63], object[:1024]]
 
 
-def outcome(answer, *given):
-    """The answer, and whether it is a refusal."""
-    try:
-        return answer(*given), False
-    except Refusal as refusal:
-        return str(refusal), True
-
-
 def held_record(made, id, *more):
-    _, refused = outcome(identity, *id.bytes())
+    _, refused = outcome(identifier, *id.bytes())
     right = id.lengths is None and not refused
     return made(id.ulid, id.bucket, id.object, *more) if right else None
 
@@ -310,13 +145,13 @@ def part_record(tag, read, part):
 # ---- the vectors
 
 READERS = {
-    "identifier": read_identifier,
-    "value": lambda s: read_value(s).told,
-    "block": read_block,
-    "version": read_version,
-    "delete": read_delete,
-    "record": read_record,
-    "at": read_at,
+    "identifier": told_composite,
+    "value": lambda s: told_value(read_value(s)),
+    "block": told_block,
+    "version": told_version,
+    "delete": told_delete,
+    "record": told_record,
+    "at": told_at,
 }
 inputs, outputs, names = [], [], set()
 
@@ -382,22 +217,6 @@ def write_delete_of(name, id, by, *rest, **more):
     call("delete_of", name, made, [*id.shown(), text], *rest, **more)
 
 
-def pairs(*given):
-    """A map of any pairs, keys that come twice included."""
-    return Raw(bytes([0x80 + len(given)]) + b"".join(item(x) for pair in given for x in pair))
-
-
-def sized(first, width, n, content=b""):
-    return Raw(bytes([first]) + (n % 256**width).to_bytes(width, "big") + content)
-
-
-def every_text(s):
-    """A short text in every width."""
-    yield "fixstr", Raw(bytes([0xA0 + len(s)]) + s)
-    for k in range(3):
-        yield "str%d" % (8 << k), sized(0xD9 + k, 1 << k, len(s), s)
-
-
 def integers(n):
     """An integer in every form that holds it."""
     if -32 <= n < 128:
@@ -409,11 +228,7 @@ def integers(n):
             yield ("int%d" if signed else "uint%d") % (8 * width), sized(0xCC + k, width, n)
 
 
-def lists(depth):
-    return Raw(b"\x91" * (depth - 1) + b"\x90")
-
-
-NIL, FLOAT, EXTENSION = Raw(b"\xc0"), Raw(b"\xca\x3f\x80\x00\x00"), Raw(b"\xd4\x05\x00")
+FLOAT, EXTENSION = Raw(b"\xca\x3f\x80\x00\x00"), Raw(b"\xd4\x05\x00")
 # Keys that are not text, each with a value.
 ODD = [(b"e", 1), (101, 2), (NIL, 3), (True, 4), ([], 5), ({}, 6), (FLOAT, 7), (EXTENSION, 8)]
 ULID = "00000000000000000000000001"
@@ -1113,18 +928,9 @@ def main():
         written_packs,
     ]:
         section()
-    size = sum(map(len, inputs))
-    assert size <= INPUT, "%d bytes are more than the program reads" % size
-    for name, lines in [("stdin", inputs), ("stdout", outputs)]:
-        path, made = os.path.join(CRATE, name), "".join(lines)
-        if sys.argv[1:] != ["--check"]:
-            with open(path, "w") as file:
-                file.write(made)
-        else:
-            with open(path) as file:
-                if file.read() != made:
-                    sys.exit("record_vectors: crates/record_vectors/%s is not what is made" % name)
-    print("record_vectors: %d vectors are as stored" % len(inputs))
+    stdin, stdout = ("".join(lines).encode() for lines in (inputs, outputs))
+    assert len(stdin) <= INPUT, "%d bytes are more than the program reads" % len(stdin)
+    store("record_vectors", stdin, stdout)
 
 
 main()
