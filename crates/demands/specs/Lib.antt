@@ -1,3 +1,5 @@
 pub mod Cases
 pub mod Sites
 pub mod ReadBack
+pub mod Deletion
+pub mod Sheet
