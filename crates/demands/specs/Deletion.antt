@@ -3,21 +3,24 @@ use Prim.Native.Nat.{ℕ, _+_, _^_, _≤_, _<_}
 use mathlib.Core.Bool.{true}
 use mathlib.Core.List.{List, _++_}
 use mathlib.Core.Option.{Option, none, some}
-use mathlib.Core.Path.{_≡_, refl, sym, ap, _∙_}
+use mathlib.Core.Path.{_≡_, refl, sym, ap, subst, _∙_}
 use native.Mathlib.Omega.{arith}
 use lib.ListN.{length, take, length-append}
-use lib.Seq.{length-take-le}
-use Rattle.endian.specs.Bytes.{AllBytes, take-bytes}
+use lib.Seq.{length-take-le, take-append-seam, drop-append-seam}
+use Rattle.endian.specs.Bytes.{AllBytes, take-bytes, drop-bytes}
 use Rattle.endian.specs.Places.{take-overwritten}
-use Rattle.tlv.specs.Layout.{length-layout}
+use Rattle.tlv.specs.Layout.{head, layout, length-layout}
 use Rattle.msgpack.specs.HeadLaws.{absurd-numbers}
+use Rattle.msgpack.specs.Writers.{textHead, mapHead}
 use Rattle.identifier.specs.Identity.{Identity}
-use Rattle.primary.specs.Parts.{refused, read}
+use Rattle.primary.specs.Parts.{refused, read, bucketKey, objectKey, ulidKey, deleteIdKey}
 use Rattle.primary.specs.Parts as primary
 use Rattle.records.specs.Record.{versionDeleteTag, Contents, isRead, readRecord, ofVersionDelete}
 use Rattle.records_model.specs.Record.{RecordHeld, withHeld, is-held}
 use Rattle.records_model.specs.Written.{heldAlone}
+use Rattle.writer.specs.Values.{textItem, pair, partHeader, partValue, identityPairs, deletePart}
 use Rattle.writer.specs.Writing.{Item, block, version, versionDelete, deletion, tagOf, valueOf, itemBytes, admitted, count, written, bufferAfter}
+use Rattle.writer_model.specs.Encoded.{IdentityBytes}
 use Rattle.writer_model.specs.Meaning.{heldOf, AreBytes, item-reads}
 use Rattle.writer_model.specs.Calls.{recordFor}
 use Rattle.writer_model.specs.Refusals.{written-exactly}
@@ -49,6 +52,41 @@ pub record TakesOut (limit : ℕ) (asked : Option Item) (before bucket object : 
   pub left : ReadablePack limit (takenOutOf limit identifier before)
   pub same : SameAnswer answer (lookup limit (takenOutOf limit identifier before) bucket object)
 
+-- ---- what is written as bytes was handed in as bytes
+
+front-bytes : (s t : List ℕ) → AllBytes (s ++ t) → AllBytes s
+front-bytes s t b = subst AllBytes (take-append-seam s t) (take-bytes (length s) (s ++ t) b)
+
+back-bytes : (s t : List ℕ) → AllBytes (s ++ t) → AllBytes t
+back-bytes s t b = subst AllBytes (drop-append-seam s t) (drop-bytes (length s) b)
+
+part-bytes : (p : List ℕ) → AllBytes (partValue p) → AllBytes p
+unfolding partValue
+part-bytes p b = back-bytes (partHeader (length p)) p b
+
+text-bytes : (key t : List ℕ) → AllBytes (pair key t) → AllBytes t
+unfolding pair textItem
+text-bytes key t b = back-bytes (textHead (length t)) t (back-bytes (textItem key) (textItem t) b)
+
+delete-part-bytes : (i : Identity) (u : List ℕ) → AllBytes (deletePart i u) → IdentityBytes i × AllBytes u
+unfolding deletePart identityPairs
+delete-part-bytes i u b =
+    let pairs = back-bytes (mapHead 4) (identityPairs i) (front-bytes (mapHead 4 ++ identityPairs i) (pair deleteIdKey u) b) in
+    let name = front-bytes (pair bucketKey (i .bucket) ++ pair objectKey (i .object)) (pair ulidKey (i .ulid)) pairs in (
+      record {
+        ulid = text-bytes ulidKey (i .ulid) (back-bytes (pair bucketKey (i .bucket) ++ pair objectKey (i .object)) (pair ulidKey (i .ulid)) pairs);
+        bucket = text-bytes bucketKey (i .bucket) (front-bytes (pair bucketKey (i .bucket)) (pair objectKey (i .object)) name);
+        object = text-bytes objectKey (i .object) (back-bytes (pair bucketKey (i .bucket)) (pair objectKey (i .object)) name);
+      },
+      text-bytes deleteIdKey u (back-bytes (mapHead 4 ++ identityPairs i) (pair deleteIdKey u) b),
+    )
+
+handed-bytes : (item : Item) → tagOf item ≡ versionDeleteTag → AllBytes (valueOf item) → AreBytes item
+handed-bytes (block i d) t b = absurd (omega arith)
+handed-bytes (version p) t b = absurd (omega arith)
+handed-bytes (versionDelete p) t b = part-bytes p b
+handed-bytes (deletion i u) t b = delete-part-bytes i u (part-bytes (deletePart i u) b)
+
 record Deletes (item : Item) : Type 0 where
   identifier : Identity
   is-deleted : deletedBy (some item) ≡ some identifier
@@ -78,16 +116,19 @@ module _ (limit : ℕ) (small : limit < 2 ^ 32) (item : Item) (used n : ℕ) (bu
   told-inside = let w = written-exactly limit (length buf) used item n .0 wrote in omega arith
 
   -- DELETION
-  pub deletion-takes-out : (bucket object : List ℕ) → tagOf item ≡ versionDeleteTag → AreBytes item → AllBytes buf → ReadablePack limit (take used buf) → isName bucket object ≡ true
+  pub deletion-takes-out : (bucket object : List ℕ) → tagOf item ≡ versionDeleteTag → AllBytes (bufferAfter limit used (some item) buf) → ReadablePack limit (take used buf) → isName bucket object ≡ true
       → TakesOut limit (some item) (take used buf) bucket object (lookup limit (take n (bufferAfter limit used (some item) buf)) bucket object)
-  deletion-takes-out bucket object tag bytes all readable name =
+  unfolding layout
+  deletion-takes-out bucket object tag all readable name =
       let w = written-exactly limit (length buf) used item n .0 wrote in
       let long = length-layout (recordFor item) in
-      let total : length (take used buf ++ itemBytes item) ≤ limit = rw (length-append, length-take-le used buf (told-inside)) (w .1) in
+      let total : length (take used buf ++ itemBytes item) ≤ limit = rw (length-append, length-take-le used buf told-inside) (w .1) in
+      let both : AllBytes (take used buf ++ itemBytes item) = subst AllBytes front (take-bytes n (bufferAfter limit used (some item) buf) all) in
+      let before = front-bytes (take used buf) (itemBytes item) both in
+      let bytes = handed-bytes item tag (back-bytes (head (recordFor item)) (valueOf item) (back-bytes (take used buf) (itemBytes item) both)) in
       let d = deletes item tag (w .0) in
       let h = is-held (valueOf item) (readRecord limit (tagOf item) (valueOf item)) (d .held) (item-reads limit small item bytes (w .0) (omega arith) ∙ d .is-held) in
       let names : h .found .contents .identifier ≡ d .identifier = ap (λ (c : Contents). c .identifier) (h .same-contents) ∙ d .names in
-      let before = take-bytes used buf all in
       record {
         identifier = d .identifier;
         is-deleted = d .is-deleted;

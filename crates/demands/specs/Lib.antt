@@ -3,3 +3,4 @@ pub mod Sites
 pub mod ReadBack
 pub mod Deletion
 pub mod Sheet
+pub mod Answers
