@@ -20,7 +20,7 @@ use Rattle.current_version.specs.Current.{Answer, isName, lookup}
 use Rattle.current_version.specs.Packs.{ReadablePack}
 use Rattle.lookup.specs.Answers.{foundOf, FoundInside}
 use Rattle.lookup.specs.declared.Found.{Found}
-use Rattle.demands.specs.Deletion.{TakesOut, deletion-takes-out}
+use Rattle.demands.specs.Deletion.{TakesOut, told-inside, deletion-takes-out}
 use Rattle.demands.specs.Answers.{looked-up, answersOf, afterwards, CountInside, DeletionInside, DeletionHolds}
 use Rattle.demands.specs.declared.Deletion.{Deletion}
 use Rattle.demands.specs.declared.Deletion.the-variants.{LookedUp, Short, Inadmissible}
@@ -61,7 +61,7 @@ counted used n (some item) before e =
     let w = written-exactly packLimit (length before) used item n .0 e in
     record {
       inside = omega arith;
-      told = omega arith;
+      told = told-inside packLimit (omega arith) item used n before e;
       takes-out = deletion-takes-out packLimit (omega arith) item used n before e;
     }
 

@@ -1,5 +1,5 @@
 -- Demand 3, deletion, with the writer's call in it: on the front as long as the count returned, the lookup answers as on the front before without the versions of the identifier that is deleted.
-use Prim.Native.Nat.{ℕ, _+_, _^_, _≤_, _<_}
+use Prim.Native.Nat.{ℕ, _^_, _≤_, _<_}
 use mathlib.Core.Bool.{true}
 use mathlib.Core.List.{List, _++_}
 use mathlib.Core.Option.{Option, none, some}
@@ -42,9 +42,8 @@ deletedBy (some (version p)) = none
 deletedBy (some (versionDelete p)) = namedBy (primary.versionDelete p)
 deletedBy (some (deletion i u)) = some i
 
--- ---- the theorem
+-- ---- the sentence: an answer after a call is that for the pack before, with all `vr` records of the identifier taken out
 
--- an answer after a call is that for the pack before, with all `vr` records of the identifier taken out
 pub record TakesOut (limit : ℕ) (asked : Option Item) (before bucket object : List ℕ) (answer : Answer) : Type 0 where
   pub identifier : Identity
   pub is-deleted : deletedBy asked ≡ some identifier
@@ -87,6 +86,8 @@ handed-bytes (version p) t b = absurd (omega arith)
 handed-bytes (versionDelete p) t b = part-bytes p b
 handed-bytes (deletion i u) t b = delete-part-bytes i u (part-bytes (deletePart i u) b)
 
+-- ---- what is written as a `vd` reads as a deletion of the identifier
+
 record Deletes (item : Item) : Type 0 where
   identifier : Identity
   is-deleted : deletedBy (some item) ≡ some identifier
@@ -103,6 +104,8 @@ deletes (versionDelete p) t a = by (primary.versionDelete p) refl a
     by (read v) e f = record { identifier = v .identifier; is-deleted = ap namedBy e; held = _; is-held = ap (λ r. withHeld (heldAlone p) (ofVersionDelete r)) e; names = refl }
     by (refused n) e f = absurd-numbers (cc)
 deletes (deletion i u) t a = record { identifier = i; is-deleted = refl; held = _; is-held = refl; names = refl }
+
+-- ---- the theorem
 
 module _ (limit : ℕ) (small : limit < 2 ^ 32) (item : Item) (used n : ℕ) (buf : List ℕ) (wrote : written limit (length buf) used (some item) ≡ count n) where
   -- the record stands directly after the pack before, which is as long as was told

@@ -20,7 +20,7 @@ use Rattle.value.specs.declared.Told.{Told}
 use Rattle.primary.specs.Parts as primary
 use Rattle.primary.specs.Parts.{Answer, refused, read, orRefused, fills, textUnder, textsUnder, deletedUnder, deleteIdKey, valid, ulidOf, versionBy, versionDeleteBy}
 use Rattle.primary.specs.Exactly.{version-names, delete-names}
-use Rattle.records.specs.Record.{versionTag, versionDeleteTag, isKnown, Contents, ofVersion, ofVersionDelete, contents, Record, toldRows, primaryIn, withTold, unless, byValue, readRecord, isRead, canBeRead}
+use Rattle.records.specs.Record.{versionTag, versionDeleteTag, isKnown, Contents, ofVersion, ofVersionDelete, contents, Record, toldRows, primaryIn, withTold, unless, byValue, readRecord, canBeRead}
 use Rattle.records.specs.Laws.{ReadAs, read-as, can-be-read, the-record}
 use Rattle.current_version.specs.Current.{isLookedAt}
 
@@ -100,7 +100,7 @@ module _ (tag : ℕ) (part : List ℕ) (n : ℕ) where
 
 -- ---- the two tags
 
-pub two-tags : (tag : ℕ) → isLookedAt tag ≡ true → (tag ≡ versionTag) ⊎ (tag ≡ versionDeleteTag)
+two-tags : (tag : ℕ) → isLookedAt tag ≡ true → (tag ≡ versionTag) ⊎ (tag ≡ versionDeleteTag)
 unfolding isLookedAt
 two-tags tag e = go (eqb tag versionTag) refl e
   where

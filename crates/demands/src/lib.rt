@@ -1,4 +1,5 @@
-// Demand 3 of the code that runs: a deletion written and a lookup after it, and a lookup in two packs.
+// What the customer signs, as theorems: each file of specs/ has one of them. The code here only calls the
+// writer and the lookup, so that demand 3 is ensured of the code that runs.
 ghost use mathlib.Core.Path.{_≡_};
 ghost use mathlib.Core.Option.{some};
 ghost use Rattle.identifier.specs.Held.{named};
