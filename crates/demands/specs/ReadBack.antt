@@ -74,7 +74,7 @@ tag-fits (versionDelete p) = omega arith
 tag-fits (deletion i u) = omega arith
 
 module _ (limit : ℕ) (small : limit < 2 ^ 32) where
-  fits : (item : Item) → AreBytes item → admitted item ≡ true → length (valueOf item) ≤ limit → Fits (recordFor item)
+  pub fits : (item : Item) → AreBytes item → admitted item ≡ true → length (valueOf item) ≤ limit → Fits (recordFor item)
   fits item b a l = record { spare = omega arith; tag = tag-fits item; value = omega arith; bytes = item-bytes limit small item b a l }
 
   all-fit : (items : List Item) → AllBytesOf items → AllAdmitted items → length (layouts (recordsOf items)) ≤ limit → AllFit (recordsOf items)

@@ -1,1 +1,80 @@
-// What the customer signs, as theorems: there is no code here. Each file of specs/ has one of them.
+// What the customer signs, as theorems: each file of specs/ has one of them. The code here only calls the
+// writer and the lookup, so that demand 3 is ensured of the code that runs.
+ghost use mathlib.Core.Path.{_≡_};
+ghost use mathlib.Core.Option.{some};
+ghost use Rattle.identifier.specs.Held.{named};
+ghost use Rattle.writer.specs.Writing.{versionDelete, deletion, ofIdentity, answerOf};
+ghost use Rattle.demands.specs.Answers.{answersOf, afterwards, CountInside, DeletionInside, DeletionHolds, OrderHolds};
+use identifier::Identifier;
+use lookup::Found;
+use writer::Written;
+
+// ---- a deletion, and a lookup after it
+
+pub enum Deletion {
+    // The count returned, and what is found in the front as long as it.
+    LookedUp(usize, Found),
+    // The buffer is too short: refusal 19.
+    Short,
+    // The record is not admitted, or the pack would be above the limit: refusal 20.
+    Inadmissible,
+}
+
+// The lookup, where the writer returned a count.
+fn look_up(buf: &[u8], written: Written, bucket: &[u8], object: &[u8]) -> Deletion
+    requires { ⌜ CountInside (now buf) written ⌝ }
+    ensures { λ r. ⌜ answersOf (now (buf .entry)) r ≡ afterwards (now (buf .entry)) (now (bucket .entry)) (now (object .entry)) (answerOf written) ⌝ }
+    ensures inside { λ r. ⌜ DeletionInside (now (buf .entry)) r ⌝ }
+{
+    match written {
+        Written::Count(n) => Deletion::LookedUp(n, lookup::lookup(&buf[..n], bucket, object)),
+        Written::Short => Deletion::Short,
+        Written::Inadmissible => Deletion::Inadmissible,
+    }
+}
+
+// The deletion is a primary part handed in.
+pub fn delete_then_look_up(
+    buf: &mut [u8],
+    used: usize,
+    part: &[u8],
+    bucket: &[u8],
+    object: &[u8],
+) -> Deletion
+    ensures { λ r. ⌜ DeletionHolds used (some (versionDelete (now (part .entry)))) (now (buf .entry)) (now (bucket .entry)) (now (object .entry)) r (now (buf .exit)) ⌝ }
+{
+    let written = writer::write_delete(buf, used, part);
+    look_up(buf, written, bucket, object)
+}
+
+// The deletion is made from the identifier of the version that goes and a delete ULID.
+pub fn delete_version_then_look_up(
+    buf: &mut [u8],
+    used: usize,
+    id: Identifier,
+    deleteid: &[u8],
+    bucket: &[u8],
+    object: &[u8],
+) -> Deletion
+    ensures { λ r. ⌜ DeletionHolds used (ofIdentity (λ i. deletion i (now (deleteid .entry))) (named id)) (now (buf .entry)) (now (bucket .entry)) (now (object .entry)) r (now (buf .exit)) ⌝ }
+{
+    let written = writer::write_delete_of(buf, used, id, deleteid);
+    look_up(buf, written, bucket, object)
+}
+
+// ---- a lookup in two packs
+
+pub struct Both {
+    pub first: Found,
+    pub second: Found,
+}
+
+pub fn look_up_in_both(first: &[u8], second: &[u8], bucket: &[u8], object: &[u8]) -> Both
+    ensures { λ r. ⌜ OrderHolds (now (first .entry)) (now (second .entry)) (now (bucket .entry)) (now (object .entry)) r ⌝ }
+{
+    let found = lookup::lookup(first, bucket, object);
+    Both {
+        first: found,
+        second: lookup::lookup(second, bucket, object),
+    }
+}

@@ -1,9 +1,9 @@
--- What is refused, and nothing else: 20 exactly where a record is not admitted or the pack would be above the limit, 19 exactly where the buffer alone is too short.
+-- What is refused, and nothing else: 20 exactly where a record is not admitted or the pack would be above the limit, 19 exactly where the buffer alone is too short. All else is written.
 use Prim.Native.Nat.{ℕ, _+_, _≤_, _<_}
 use mathlib.Core.Bool.{Bool, true, false, cond}
 use mathlib.Core.Logic.{_↔_, _⊎_, inl, inr, ⊎-elim}
 use mathlib.Core.Option.{some}
-use mathlib.Core.Path.{_≡_, refl}
+use mathlib.Core.Path.{_≡_, refl, ap}
 use native.Mathlib.Omega.{arith}
 use borrow.Author.Tests.{le-leb, lt-leb, leb-true, leb-false}
 use lib.Dec.{leb}
@@ -62,3 +62,13 @@ module _ (limit room used : ℕ) (item : Item) where
       why (above-limit a l) e = absurd (let z : _≡_ {A = ℕ} 20 19 = cc in omega arith)
       why (no-room a l m) e = (a, l, m)
       why (written-out a l m) e = absurd-numbers (cc)
+
+  pub written-exactly : (n : ℕ) → written limit room used (some item) ≡ count n ↔ ((admitted item ≡ true) × (total ≤ limit) × (total ≤ room) × (total ≡ n))
+  unfolding written counted
+  written-exactly n = (λ e. why tested e, λ h. rw (h .0, le-leb _ _ (h .1), le-leb _ _ (h .2)) (ap count (h .3)))
+    where
+      why : {r : Answer} → Tested r → r ≡ count n → (admitted item ≡ true) × (total ≤ limit) × (total ≤ room) × (total ≡ n)
+      why (not-admitted a) e = absurd-numbers (cc)
+      why (above-limit a l) e = absurd-numbers (cc)
+      why (no-room a l m) e = absurd-numbers (cc)
+      why (written-out a l m) e = (a, l, m, (cc))

@@ -1,0 +1,31 @@
+-- `demands::delete_then_look_up` meets its contract: what is asked for is a `vd`.
+use mathlib.Core.Option.{some}
+use mathlib.Core.Path.{refl}
+use borrow.Author.Needs.{needs}
+use Rattle.endian.specs.Bytes.{AllBytes}
+use Rattle.writer.specs.Writing.{versionDelete}
+use Rattle.demands.proofs.Calls.{count-inside, deletion-holds}
+use Rattle.demands.proofs.delete_then_look_up.Statement.{statement}
+use Rattle.demands.proofs.delete_then_look_up.Tie as tie
+
+write-delete-requires : tie.Need-write-delete-requires
+write-delete-requires c κs = search needs
+
+look-up-requires : tie.Need-look-up-requires
+look-up-requires c κs =
+    let written = c .before .before .before .write-delete in
+    let start = c .before .before .before .before .before .before .before .before .before in
+    count-inside (start .args .used) (some (versionDelete (start .args .part .now))) (start .args .buf .now) _ _ (written .ensures .0) (written .kept .0)
+
+same-length : tie.Need-same-length
+same-length c = search needs
+
+returns : tie.Need-returns
+returns c =
+    let written = c .before .before .before .before .write-delete in
+    let after : AllBytes (written .last .0) = record { below = λ k. c .before .before .slice-known2 .given k .fits } in
+    deletion-holds _ _ _ _ _ _ _ refl after (written .result) (written .ensures .0) (written .ensures .1) (c .look-up .ensures .0) (c .look-up .ensures .1)
+
+pub delete-then-look-up-spec : {M : Type 1} → statement M
+delete-then-look-up-spec =
+    tie.close (tie.spec write-delete-requires look-up-requires same-length returns)

@@ -1,0 +1,66 @@
+-- What the code that writes and looks up answers, for every input, and demand 3 of these answers.
+use Prim.Native.Nat.{ℕ, _≤_}
+use mathlib.Core.Bool.{true}
+use mathlib.Core.List.{List}
+use mathlib.Core.Option.{Option}
+use mathlib.Core.Path.{_≡_}
+use lib.ListN.{length, take}
+use Rattle.pack.specs.Reading.{packLimit}
+use Rattle.writer.specs.Writing as writer
+use Rattle.writer.specs.Writing.{Item, count, written, bufferAfter}
+use Rattle.writer.specs.declared.Written.{Written}
+use Rattle.writer.specs.declared.Written.the-variants.{Count}
+use Rattle.current_version.specs.Current.{Answer, isName, lookup}
+use Rattle.current_version.specs.Packs.{ReadablePack, SameAnswer}
+use Rattle.current_version.specs.Bytes.{SameRecordsIn, OneValueIn}
+use Rattle.lookup.specs.Answers.{foundOf, FoundInside}
+use Rattle.lookup.specs.declared.Found.{Found}
+use Rattle.demands.specs.Deletion.{TakesOut}
+use Rattle.demands.specs.declared.Deletion.{Deletion}
+use Rattle.demands.specs.declared.Deletion.the-variants.{LookedUp, Short, Inadmissible}
+use Rattle.demands.specs.declared.Both.{Both}
+
+-- ---- a deletion, and a lookup after it
+
+-- the count, and the answer on the front as long as it; or the number of the refusal, after which nothing is looked up
+pub data Answers : Type 0 where
+  looked-up : (count : ℕ) → Answer → Answers
+  refused : (number : ℕ) → Answers
+
+abbrev pub answersOf : List ℕ → Deletion → Answers
+answersOf buf (LookedUp n f) = looked-up n (foundOf (take n buf) f)
+answersOf buf Short = refused 19
+answersOf buf Inadmissible = refused 20
+
+-- by what the writer answers and the buffer then holds
+abbrev pub afterwards : List ℕ → List ℕ → List ℕ → writer.Answer → Answers
+afterwards buf bucket object (count n) = looked-up n (lookup packLimit (take n buf) bucket object)
+afterwards buf bucket object (writer.refused n) = refused n
+
+-- a count lies in the buffer
+pub record CountInside (buf : List ℕ) (w : Written) : Type 0 where
+  pub inside : (n : ℕ) → w ≡ Count n → n ≤ length buf
+
+-- what is found lies in the pack
+pub record DeletionInside (buf : List ℕ) (r : Deletion) : Type 0 where
+  pub inside : (n : ℕ) (f : Found) → r ≡ LookedUp n f → FoundInside (take n buf) f
+
+-- of a call that is asked to add a `vd` after the first `used` bytes
+pub record DeletionHolds (used : ℕ) (asked : Option Item) (before bucket object : List ℕ) (r : Deletion) (after : List ℕ) : Type 0 where
+  pub answers : answersOf after r ≡ afterwards after bucket object (written packLimit (length before) used asked)
+  pub buffer : after ≡ bufferAfter packLimit used asked before
+  pub found-inside : DeletionInside after r
+  -- where the writer adds it, the front is as long as was told
+  pub told-inside : (n : ℕ) (f : Found) → r ≡ LookedUp n f → used ≤ length before
+  -- demand 3: and where this front is accepted and its `vr` and `vd` records can all be read, the answer for an object is that for the front with all `vr` records of the identifier taken out
+  pub takes-out : (n : ℕ) (f : Found) → r ≡ LookedUp n f → ReadablePack packLimit (take used before) → isName bucket object ≡ true → TakesOut packLimit asked (take used before) bucket object (foundOf (take n after) f)
+
+-- ---- a lookup in two packs
+
+pub record OrderHolds (first second bucket object : List ℕ) (r : Both) : Type 0 where
+  pub first-is : foundOf first (r .first) ≡ lookup packLimit first bucket object
+  pub second-is : foundOf second (r .second) ≡ lookup packLimit second bucket object
+  pub first-inside : FoundInside first (r .first)
+  pub second-inside : FoundInside second (r .second)
+  -- demand 3: where both are accepted, their `vr` and `vd` records can all be read, they have the same records, each as often, and `vr` records that share an identifier have equal values, the answers for an object are the same
+  pub alike : ReadablePack packLimit first → ReadablePack packLimit second → SameRecordsIn packLimit first second → OneValueIn packLimit first → isName bucket object ≡ true → SameAnswer (foundOf first (r .first)) (foundOf second (r .second))
