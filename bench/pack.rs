@@ -5,6 +5,7 @@ use std::process::exit;
 
 mod plain;
 mod timing;
+mod tlv;
 
 // The proved function, from target/staticlib/libbench.a.
 #[link(name = "bench", kind = "static")]
@@ -18,58 +19,24 @@ fn proved(pack: &[u8]) -> u64 {
     unsafe { bench_check(pack.as_ptr(), pack.len()) }
 }
 
-const MAGIC: [u8; 8] = *b"\x89TLV\r\n\x1a\n";
-const HEADER: usize = 32;
-
-fn read16(bytes: &[u8]) -> u64 {
-    u64::from(u16::from_be_bytes(bytes.try_into().unwrap()))
-}
-
-fn read64(bytes: &[u8]) -> u64 {
-    u64::from_be_bytes(bytes.try_into().unwrap())
-}
-
 /// How many records the pack has, or the number of its refusal, after document 01.
 // Not inlined: the proved function is a call into an archive, so this one is to be a call too.
 #[inline(never)]
 fn rust(pack: &[u8]) -> Result<u64, u32> {
-    if pack.len() > 4_294_967_295 {
+    if pack.len() > tlv::PACK_LIMIT {
         return Err(1);
     }
     let mut left = pack;
     let mut records = 0;
     while !left.is_empty() {
-        let Some((header, after)) = left.split_first_chunk::<HEADER>() else {
-            return Err(2);
-        };
-        if header[..8] != MAGIC {
-            return Err(3);
-        }
-        if header[24] != 0 {
-            return Err(4);
-        }
-        if header[27] != 8 {
-            return Err(5);
-        }
-        if read16(&header[30..]) != plain::xxh64(&header[..30]) % 65536 {
-            return Err(6);
-        }
-        let length = read64(&header[8..16]);
-        if length > after.len() as u64 {
-            return Err(7);
-        }
-        let (value, after) = after.split_at(length as usize);
-        if read64(&header[16..24]) != plain::xxh64(value) {
-            return Err(8);
-        }
-        left = after;
+        tlv::take(&mut left)?;
         records += 1;
     }
     Ok(records)
 }
 
 const VALUE: usize = 10_000;
-const RECORD: usize = HEADER + VALUE;
+const RECORD: usize = tlv::HEADER + VALUE;
 /// As many as 64 MiB have room for.
 const RECORDS: usize = (64 << 20) / RECORD;
 
@@ -77,15 +44,7 @@ const RECORDS: usize = (64 << 20) / RECORD;
 fn generate() -> Vec<u8> {
     let mut pack = Vec::with_capacity(RECORDS * RECORD);
     for value in plain::generate(RECORDS * VALUE).chunks_exact(VALUE) {
-        let start = pack.len();
-        pack.extend(MAGIC);
-        pack.extend((VALUE as u64).to_be_bytes());
-        pack.extend(plain::xxh64(value).to_be_bytes());
-        // The version, the tag, the hash type and two bytes that are not interpreted.
-        pack.extend(*b"\x00bk\x08\x00\x00");
-        let hash = plain::xxh64(&pack[start..]) as u16;
-        pack.extend(hash.to_be_bytes());
-        pack.extend(value);
+        tlv::append(&mut pack, *b"bk", value);
     }
     pack
 }
