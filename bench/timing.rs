@@ -1,9 +1,12 @@
 //! Timing of two functions against each other, shared by the benchmarks here.
 
-use std::time::{Duration, Instant};
+use std::time::Instant;
 
 const ROUNDS: u32 = 15;
-const ROUND: Duration = Duration::from_millis(20);
+// Times are in nanoseconds.
+const ROUND: f64 = 20e6;
+/// A function that takes longer is called once.
+const LONG: f64 = 1e9;
 
 /// The best time of one call of `f` and of one call of `g`, in nanoseconds.
 ///
@@ -11,8 +14,11 @@ const ROUND: Duration = Duration::from_millis(20);
 /// round counts, since other work on the machine only ever makes a round slower. The closures must
 /// pass what they read and what they give through `std::hint::black_box`.
 pub fn compare(mut f: impl FnMut(), mut g: impl FnMut()) -> (f64, f64) {
-    let (n, m) = (calibrate(&mut f), calibrate(&mut g));
-    let (mut best_f, mut best_g) = (f64::INFINITY, f64::INFINITY);
+    let (n, mut best_f) = calibrate(&mut f);
+    let (m, mut best_g) = calibrate(&mut g);
+    if best_f.max(best_g) > LONG {
+        return (best_f, best_g);
+    }
     for round in 0..ROUNDS {
         // Neither is always the first, in case a round leaves something behind for the next.
         if round % 2 == 0 {
@@ -26,30 +32,25 @@ pub fn compare(mut f: impl FnMut(), mut g: impl FnMut()) -> (f64, f64) {
     (best_f, best_g)
 }
 
-/// How many calls take about one `ROUND`. This is the warm-up too.
-fn calibrate(f: &mut impl FnMut()) -> u64 {
+/// How many calls take about one `ROUND`, and the time of one so far. This is the warm-up too.
+fn calibrate(f: &mut impl FnMut()) -> (u64, f64) {
     let mut n = 1;
     loop {
-        let took = run(f, n);
+        let took = per_call(f, n);
         // A shorter run says too little about how many calls fill a round.
-        if took >= ROUND / 4 {
-            let calls = n as f64 * ROUND.as_secs_f64() / took.as_secs_f64();
-            return (calls as u64).max(1);
+        if took * n as f64 >= ROUND / 4.0 {
+            return (((ROUND / took) as u64).max(1), took);
         }
         n *= 2;
     }
 }
 
-fn per_call(f: &mut impl FnMut(), n: u64) -> f64 {
-    run(f, n).as_secs_f64() * 1e9 / n as f64
-}
-
 // Not inlined, so that the loop of each function does not depend on the code around it.
 #[inline(never)]
-fn run(f: &mut impl FnMut(), n: u64) -> Duration {
+fn per_call(f: &mut impl FnMut(), n: u64) -> f64 {
     let start = Instant::now();
     for _ in 0..n {
         f();
     }
-    start.elapsed()
+    start.elapsed().as_secs_f64() * 1e9 / n as f64
 }
