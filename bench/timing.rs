@@ -5,7 +5,7 @@ use std::time::Instant;
 const ROUNDS: u32 = 15;
 // Times are in nanoseconds.
 const ROUND: f64 = 20e6;
-/// A function that takes longer is called once.
+/// A function that takes longer is called once: its warm-up counts.
 const LONG: f64 = 1e9;
 
 /// The best time of one call of `f` and of one call of `g`, in nanoseconds.
@@ -16,17 +16,14 @@ const LONG: f64 = 1e9;
 pub fn compare(mut f: impl FnMut(), mut g: impl FnMut()) -> (f64, f64) {
     let (n, mut best_f) = calibrate(&mut f);
     let (m, mut best_g) = calibrate(&mut g);
-    if best_f.max(best_g) > LONG {
-        return (best_f, best_g);
-    }
     for round in 0..ROUNDS {
         // Neither is always the first, in case a round leaves something behind for the next.
         if round % 2 == 0 {
-            best_f = best_f.min(per_call(&mut f, n));
-            best_g = best_g.min(per_call(&mut g, m));
+            improve(&mut best_f, &mut f, n);
+            improve(&mut best_g, &mut g, m);
         } else {
-            best_g = best_g.min(per_call(&mut g, m));
-            best_f = best_f.min(per_call(&mut f, n));
+            improve(&mut best_g, &mut g, m);
+            improve(&mut best_f, &mut f, n);
         }
     }
     (best_f, best_g)
@@ -42,6 +39,12 @@ fn calibrate(f: &mut impl FnMut()) -> (u64, f64) {
             return (((ROUND / took) as u64).max(1), took);
         }
         n *= 2;
+    }
+}
+
+fn improve(best: &mut f64, f: &mut impl FnMut(), n: u64) {
+    if *best < LONG {
+        *best = best.min(per_call(f, n));
     }
 }
 

@@ -1,0 +1,261 @@
+//! The proved lookup of the current version against a plain one in Rust and against document 001's
+//! own code in Python, on the same packs and in one run.
+
+use std::hint::black_box;
+use std::process::{exit, Command};
+
+mod msgpack;
+mod plain;
+mod plain_lookup;
+mod records;
+mod timing;
+mod tlv;
+
+use records::{object, version, version_delete, Pack, BUCKET};
+
+// The proved function, from target/staticlib/libbench.a.
+#[link(name = "bench", kind = "static")]
+extern "C" {
+    fn bench_lookup(
+        pack: *const u8,
+        pack_len: usize,
+        bucket: *const u8,
+        bucket_len: usize,
+        object: *const u8,
+        object_len: usize,
+    ) -> u64;
+}
+
+/// The start of the current version's record plus 1, or 0 where there is none or a refusal.
+fn proved(pack: &[u8], bucket: &str, object: &str) -> u64 {
+    // SAFETY: the pointers and lengths are those of slices, and the function only reads them.
+    unsafe {
+        bench_lookup(
+            pack.as_ptr(),
+            pack.len(),
+            bucket.as_ptr(),
+            bucket.len(),
+            object.as_ptr(),
+            object.len(),
+        )
+    }
+}
+
+type Answer = Result<Option<usize>, u32>;
+
+fn rust(pack: &[u8], bucket: &str, object: &str) -> Answer {
+    plain_lookup::lookup(pack, bucket.as_bytes(), object.as_bytes())
+}
+
+/// The one number of the proved function for an answer.
+fn number(answer: Answer) -> u64 {
+    answer.ok().flatten().map_or(0, |start| start as u64 + 1)
+}
+
+fn fail(what: &str) -> ! {
+    eprintln!("lookup: {what}");
+    exit(1)
+}
+
+/// Figures of a function that gives a wrong answer would mean nothing.
+fn expect(want: Answer, p: u64, r: Answer, what: &str) {
+    if p != number(want) || r != want {
+        fail(&format!(
+            "{what}: proved gives {p}, Rust {r:?}, where {want:?} is right"
+        ));
+    }
+}
+
+/// A record of a small pack. Its number is its ULID's.
+#[derive(Clone, Copy)]
+enum Entry {
+    Version(usize),
+    Marker(usize),
+    Deletion(usize),
+    /// The same of another object.
+    OtherVersion(usize),
+    OtherDeletion(usize),
+    /// A record that is passed over, with a value that would not be read.
+    Block,
+}
+
+fn record(entry: Entry) -> ([u8; 2], Vec<u8>) {
+    match entry {
+        Entry::Version(n) => (*b"vr", version(n, &object(0), false)),
+        Entry::Marker(n) => (*b"vr", version(n, &object(0), true)),
+        Entry::Deletion(n) => (*b"vd", version_delete(n, &object(0))),
+        Entry::OtherVersion(n) => (*b"vr", version(n, &object(1), false)),
+        Entry::OtherDeletion(n) => (*b"vd", version_delete(n, &object(1))),
+        Entry::Block => (*b"bk", vec![0xC1]),
+    }
+}
+
+/// The pack of these records, and the start of each.
+fn small(entries: &[Entry]) -> (Vec<u8>, Vec<usize>) {
+    let (mut pack, mut starts) = (Vec::new(), Vec::new());
+    for &entry in entries {
+        let (tag, value) = record(entry);
+        starts.push(pack.len());
+        tlv::append(&mut pack, tag, &value);
+    }
+    (pack, starts)
+}
+
+/// Records, and which of them is current.
+const RULES: [(&[Entry], Option<usize>); 14] = {
+    use Entry::*;
+    [
+        (&[], None),
+        (&[Version(1), Version(2), Version(3)], Some(2)),
+        (&[Version(3), Version(1), Version(2)], Some(0)),
+        (&[Version(1), Version(3), Version(2)], Some(1)),
+        (&[Version(1), OtherVersion(2)], Some(0)),
+        (&[OtherVersion(2)], None),
+        (&[Version(1), Version(2), Deletion(2)], Some(0)),
+        (&[Deletion(2), Version(1), Version(2)], Some(1)),
+        (&[Deletion(1), Version(1), Version(2), Deletion(2)], None),
+        (&[Version(1), Version(2), OtherDeletion(2)], Some(1)),
+        (&[Version(1), Version(2), Version(2)], Some(1)),
+        (&[Version(1), Marker(2)], Some(1)),
+        (&[Version(1), Marker(2), Deletion(2)], Some(0)),
+        (&[Block, Version(1), Block], Some(1)),
+    ]
+};
+
+fn check_rules() {
+    let name = object(0);
+    for (i, (entries, current)) in RULES.into_iter().enumerate() {
+        let (pack, starts) = small(entries);
+        let want = Ok(current.map(|index| starts[index]));
+        let (p, r) = (proved(&pack, BUCKET, &name), rust(&pack, BUCKET, &name));
+        expect(want, p, r, &format!("rule {i}"));
+    }
+    let (pack, _) = small(&[Entry::Version(1)]);
+    let long = "x".repeat(1025);
+    for (bucket, name) in [
+        ("", "x"),
+        ("a/b", "x"),
+        (&long[..64], "x"),
+        ("b", ""),
+        ("b", &long),
+    ] {
+        let (p, r) = (proved(&pack, bucket, name), rust(&pack, bucket, name));
+        expect(Err(20), p, r, "a name that breaks the rules");
+    }
+}
+
+/// The two answer alike. What is right is not told here. Gives whether they refuse.
+fn alike(pack: &[u8], what: &str) -> bool {
+    let name = object(0);
+    let (p, r) = (proved(pack, BUCKET, &name), rust(pack, BUCKET, &name));
+    expect(r, p, r, what);
+    r.is_err()
+}
+
+const SMALL: [Entry; 5] = [
+    Entry::Version(1),
+    Entry::Deletion(3),
+    Entry::Version(3),
+    Entry::OtherVersion(4),
+    Entry::Version(2),
+];
+
+/// Packs with a byte changed, cut, and with a byte of a value changed under right hashes.
+fn check_damaged() {
+    let (mut pack, _) = small(&SMALL);
+    for place in 0..pack.len() {
+        pack[place] ^= 1;
+        if !alike(&pack, &format!("byte {place} flipped")) {
+            fail(&format!("byte {place} flipped, and both take the pack"));
+        }
+        pack[place] ^= 1;
+        alike(&pack[..place], &format!("cut at {place}"));
+    }
+    for damaged in [1, 4] {
+        let (mut front, _) = small(&SMALL[..damaged]);
+        let (back, _) = small(&SMALL[damaged + 1..]);
+        let (tag, mut value) = record(SMALL[damaged]);
+        let length = front.len();
+        for place in 0..value.len() {
+            for mask in 1..=255 {
+                value[place] ^= mask;
+                tlv::append(&mut front, tag, &value);
+                front.extend(&back);
+                let what = format!("record {damaged}, byte {place} of the value by {mask}");
+                alike(&front, &what);
+                front.truncate(length);
+                value[place] ^= mask;
+            }
+        }
+    }
+}
+
+/// Every fiftieth version is of the object that is looked up.
+const OBJECTS: usize = 50;
+
+const PACK_FILE: &str = "target/bench/lookup.pack";
+
+/// Document 001's own code: the ULID of the current version, and the best round's milliseconds. None
+/// where Python or its packages are absent.
+fn python(pack: &[u8], object: &str) -> Option<(String, f64)> {
+    std::fs::write(PACK_FILE, pack).unwrap_or_else(|e| fail(&format!("{PACK_FILE}: {e}")));
+    let run = Command::new("bench/lookup.py")
+        .args([PACK_FILE, BUCKET, object])
+        .output()
+        .ok()?;
+    match run.status.code() {
+        Some(0) => {}
+        Some(2) => return None,
+        _ => fail(&format!("Python: {}", String::from_utf8_lossy(&run.stderr))),
+    }
+    let said = String::from_utf8_lossy(&run.stdout);
+    let (ulid, milliseconds) = said.trim().split_once(' ').unwrap();
+    Some((ulid.to_string(), milliseconds.parse().unwrap()))
+}
+
+fn measure(versions: usize, objects: usize, deleted: usize) {
+    let pack = Pack::new(versions, objects, deleted);
+    let name = object(0);
+    let (mut p_answer, mut r_answer) = (0, Ok(None));
+    let (p, r) = timing::compare(
+        || p_answer = black_box(proved(black_box(&pack.bytes), BUCKET, &name)),
+        || r_answer = black_box(rust(black_box(&pack.bytes), BUCKET, &name)),
+    );
+    let what = format!("{versions} versions, {deleted} deleted");
+    let want = pack.current.as_ref().map(|(start, _)| *start);
+    expect(Ok(want), p_answer, r_answer, &what);
+    let (p, r, len) = (p / 1e6, r / 1e6, pack.bytes.len());
+    print!("{versions:8} {objects:8} {deleted:8} {len:9} {p:11.2} {r:9.2}");
+    match python(&pack.bytes, &name) {
+        Some((ulid, y)) => {
+            let want = pack.current.map_or("nothing".to_string(), |(_, ulid)| ulid);
+            if ulid != want {
+                fail(&format!("{what}: Python gives {ulid}, not {want}"));
+            }
+            println!(" {y:11.2} {:13.1} {:15.2}", p / r, p / y);
+        }
+        None => println!(" {:>11} {:13.1}", "absent", p / r),
+    }
+}
+
+fn main() {
+    check_rules();
+    check_damaged();
+    println!("Current version, best round of each; a ratio under 1.00 means that proved is faster");
+    println!("Python needs Debian's python3-msgpack and python3-xxhash");
+    println!("versions  objects  deleted     bytes   proved ms   Rust ms   Python ms   proved/Rust   proved/Python");
+    for versions in [1_000, 10_000, 100_000] {
+        measure(versions, OBJECTS, 0);
+    }
+    for deleted in [1, 10, 100] {
+        measure(10_000, OBJECTS, deleted);
+    }
+    // The worst case: all versions of the one object deleted.
+    for versions in [100, 1_000] {
+        measure(versions, 1, versions);
+    }
+    // Takes long, as the time grows with the square.
+    if std::env::var_os("WORST").is_some() {
+        measure(10_000, 1, 10_000);
+    }
+}

@@ -1,0 +1,131 @@
+//! Versions and version deletes as docs/FORMAT.md has them, made for the benchmark of the lookup.
+
+use crate::plain;
+use crate::tlv;
+
+/// A head in one byte below the limit, else in the first of the forms (byte, width) that holds it.
+fn head(n: usize, short: u8, limit: usize, forms: &[(u8, usize)]) -> Vec<u8> {
+    if n < limit {
+        return vec![short + n as u8];
+    }
+    let &(byte, width) = forms.iter().find(|form| n >> (8 * form.1) == 0).unwrap();
+    [&[byte], &n.to_be_bytes()[8 - width..]].concat()
+}
+
+fn natural(n: usize) -> Vec<u8> {
+    head(n, 0x00, 128, &[(0xCC, 1), (0xCD, 2), (0xCE, 4)])
+}
+
+fn boolean(b: bool) -> Vec<u8> {
+    vec![0xC2 + u8::from(b)]
+}
+
+fn text(t: &str) -> Vec<u8> {
+    let mut item = head(t.len(), 0xA0, 32, &[(0xD9, 1), (0xDA, 2), (0xDB, 4)]);
+    item.extend(t.as_bytes());
+    item
+}
+
+fn bytes(b: &[u8]) -> Vec<u8> {
+    let mut item = head(b.len(), 0, 0, &[(0xC4, 1), (0xC5, 2), (0xC6, 4)]);
+    item.extend(b);
+    item
+}
+
+fn list(items: &[Vec<u8>]) -> Vec<u8> {
+    let mut item = head(items.len(), 0x90, 16, &[(0xDC, 2), (0xDD, 4)]);
+    item.extend(items.concat());
+    item
+}
+
+fn map(pairs: &[(&str, Vec<u8>)]) -> Vec<u8> {
+    let mut item = head(pairs.len(), 0x80, 16, &[(0xDE, 2), (0xDF, 4)]);
+    for (key, value) in pairs {
+        item.extend(text(key));
+        item.extend(value);
+    }
+    item
+}
+
+pub const BUCKET: &str = "registry";
+
+pub fn object(number: usize) -> String {
+    format!("scans/2026/animal-{number:04}.dcm")
+}
+
+const ALPHABET: &[u8; 32] = b"0123456789ABCDEFGHJKMNPQRSTVWXYZ";
+
+/// A ULID that grows with the number, which is its time.
+pub fn ulid(number: usize) -> String {
+    let random = (number as u64).wrapping_mul(11400714785074694797);
+    let bits = (1_790_000_000_000 + number as u128) << 80 | u128::from(random) << 16;
+    let digit = |place| char::from(ALPHABET[(bits >> (5 * place)) as usize % 32]);
+    (0..26).rev().map(digit).collect()
+}
+
+/// The value of a version, with what such a record usually tells of an object on tape.
+pub fn version(number: usize, object: &str, is_delete_marker: bool) -> Vec<u8> {
+    let length = natural(5_000_000 + number);
+    let reader = map(&[("t", natural(1)), ("i", text("vets")), ("p", natural(1))]);
+    let clone = map(&[
+        ("p", text("tape")),
+        ("l", bytes(&plain::generate(64))),
+        ("f", natural(0)),
+        ("B", natural(10_000_000)),
+        ("s", length.clone()),
+    ]);
+    value(map(&[
+        ("b", text(BUCKET)),
+        ("o", text(object)),
+        ("v", text(&ulid(number))),
+        ("w", text("owner")),
+        ("A", list(&[reader])),
+        ("l", length),
+        ("e", text(&format!("{number:032x}"))),
+        ("d", boolean(is_delete_marker)),
+        ("p", list(&[clone])),
+        ("s", map(&[("Content-Type", text("application/dicom"))])),
+    ]))
+}
+
+/// The value of a version delete.
+pub fn version_delete(number: usize, object: &str) -> Vec<u8> {
+    value(map(&[
+        ("b", text(BUCKET)),
+        ("o", text(object)),
+        ("v", text(&ulid(number))),
+        ("???", text(&ulid(1_000_000 + number))),
+    ]))
+}
+
+fn value(primary: Vec<u8>) -> Vec<u8> {
+    map(&[("e", bytes(&primary))])
+}
+
+/// A pack with versions of several objects in turn, and after them the deletion of the newest of the
+/// first object's.
+pub struct Pack {
+    pub bytes: Vec<u8>,
+    /// The first object's current version: its record's start and its ULID.
+    pub current: Option<(usize, String)>,
+}
+
+impl Pack {
+    pub fn new(versions: usize, objects: usize, deleted: usize) -> Self {
+        let (mut bytes, mut starts) = (Vec::new(), Vec::new());
+        for number in 0..versions {
+            starts.push(bytes.len());
+            let value = version(number, &object(number % objects), false);
+            tlv::append(&mut bytes, *b"vr", &value);
+        }
+        let mut newest_first = (0..versions).step_by(objects).rev();
+        for number in newest_first.by_ref().take(deleted) {
+            tlv::append(&mut bytes, *b"vd", &version_delete(number, &object(0)));
+        }
+        let current = newest_first.next();
+        Pack {
+            bytes,
+            current: current.map(|number| (starts[number], ulid(number))),
+        }
+    }
+}
