@@ -243,7 +243,10 @@ fn main() {
     check_damaged();
     println!("Current version, best round of each; a ratio under 1.00 means that proved is faster");
     println!("Python needs Debian's python3-msgpack and python3-xxhash");
-    println!("versions  objects  deleted     bytes   proved ms   Rust ms   Python ms   proved/Rust   proved/Python");
+    println!(
+        "versions  objects  deleted     bytes   proved ms   Rust ms   Python ms   proved/Rust   \
+         proved/Python"
+    );
     for versions in [1_000, 10_000, 100_000] {
         measure(versions, OBJECTS, 0);
     }

@@ -1,9 +1,11 @@
-//! Versions and version deletes as docs/FORMAT.md has them, made for the benchmark of the lookup.
+//! Versions and version deletes as docs/FORMAT.md has them, in shortest forms, made for the benchmark
+//! of the lookup.
 
 use crate::plain;
 use crate::tlv;
 
-/// A head in one byte below the limit, else in the first of the forms (byte, width) that holds it.
+/// The head of an item: one byte where the number is below the limit, else the first of the forms
+/// (byte, width) that holds it.
 fn head(n: usize, short: u8, limit: usize, forms: &[(u8, usize)]) -> Vec<u8> {
     if n < limit {
         return vec![short + n as u8];
