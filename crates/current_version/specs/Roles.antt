@@ -2,7 +2,7 @@
 use Prim.Native.Nat.{ℕ}
 use mathlib.Core.Bool.{Bool, true, false, cond, _||_}
 use mathlib.Core.List.{List}
-use mathlib.Core.Option.{some}
+use mathlib.Core.Option.{none, some}
 use mathlib.Core.Path.{_≡_, refl, sym, ap, subst, _∙_}
 use borrow.Author.Tests.{eqb-true}
 use lib.Dec.{eqb}
@@ -13,7 +13,7 @@ use Rattle.primary.specs.Exactly.{version-names}
 use Rattle.records.specs.Record as records
 use Rattle.records.specs.Record.{versionTag, versionDeleteTag, readRecord, Contents, contents, ofVersion, ofVersionDelete, primaryIn}
 use Rattle.records.specs.Laws.{read-as}
-use Rattle.current_version.specs.Current.{Role, version, deletion, other, unreadable, roleBy, roleOf, isLookedAt, role, placedBy, Version, versionBy, versionOf}
+use Rattle.current_version.specs.Current.{Role, version, deletion, other, unreadable, roleBy, roleOf, isLookedAt, role, placedBy, Version, versionBy, versionOf, deletes}
 
 -- a `vd` that is read names its version identifier
 pub delete-role : (limit : ℕ) (value : List ℕ) (x : records.Record) → readRecord limit versionDeleteTag value ≡ primary.read x → role limit versionDeleteTag value ≡ deletion (x .contents .identifier)
@@ -35,6 +35,42 @@ delete-no-version limit value i f e = go (readRecord limit versionDeleteTag valu
         let d : deletion (x .contents .identifier) ≡ version i f = sym (delete-role limit value x r) ∙ e in
         absurd-numbers (cc)
     go (primary.refused n) r h = absurd-numbers (cc)
+
+-- so it tells no version
+pub delete-tells-none : (limit start : ℕ) (value : List ℕ) → versionBy start value (role limit versionDeleteTag value) ≡ none
+delete-tells-none limit start value = go (role limit versionDeleteTag value) refl
+  where
+    go : (r : Role) → role limit versionDeleteTag value ≡ r → versionBy start value r ≡ none
+    go (version i f) e = absurd (delete-no-version limit value i f e)
+    go (deletion i) e = refl
+    go other e = refl
+    go (unreadable n) e = refl
+
+version-no-deletion : (limit : ℕ) (value : List ℕ) (i : Identity) → role limit versionTag value ≡ deletion i → ⊥
+unfolding role isLookedAt contents
+version-no-deletion limit value i e = go (readRecord limit versionTag value) refl e
+  where
+    told : (x : records.Record) → roleBy (x .contents .identifier) (x .contents .kind) ≡ deletion i → (a : primary.Answer primary.Version) → ofVersion a ≡ primary.read (x .contents) → ⊥
+    told x h (primary.read v) q =
+        let is : record { identifier = v .identifier; kind = records.version (v .deleted) } ≡ x .contents = cc in
+        let same : version (v .identifier) (v .deleted) ≡ deletion i = ap (λ (c : Contents). roleBy (c .identifier) (c .kind)) is ∙ h in
+        absurd-numbers (cc)
+    told x h (primary.refused n) q = absurd-numbers (cc)
+
+    go : (a : primary.Answer records.Record) → readRecord limit versionTag value ≡ a → roleOf a ≡ deletion i → ⊥
+    go (primary.read x) r h = told x h (primary.version (primaryIn value (x .told))) (read-as limit versionTag value x r .primary-tells)
+    go (primary.refused n) r h = absurd-numbers (cc)
+
+-- a `vr` names no version
+pub version-deletes-none : (limit : ℕ) (value : List ℕ) (i : Identity) → deletes i (role limit versionTag value) ≡ false
+unfolding deletes
+version-deletes-none limit value i = go (role limit versionTag value) refl
+  where
+    go : (r : Role) → role limit versionTag value ≡ r → deletes i r ≡ false
+    go (version j f) e = refl
+    go (deletion j) e = absurd (version-no-deletion limit value j e)
+    go other e = refl
+    go (unreadable n) e = refl
 
 version-valid : (limit : ℕ) (value : List ℕ) (i : Identity) (f : Bool) → role limit versionTag value ≡ version i f → isValid i ≡ true
 unfolding role isLookedAt contents

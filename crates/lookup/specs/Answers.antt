@@ -1,9 +1,10 @@
 -- What the answers of the code say: document 01's numbers, and the contents at the places told.
 use Prim.Native.Nat.{ℕ, _+_, _≤_, _<_}
-use mathlib.Core.Bool.{Bool}
+use mathlib.Core.Bool.{Bool, cond}
 use mathlib.Core.List.{List, _∷_}
 use mathlib.Core.Option.{Option, none, some}
 use mathlib.Core.Path.{_≡_}
+use lib.Dec.{eqb}
 use lib.ListN.{length, take, drop}
 use Rattle.tlv.specs.Found as tlv
 use Rattle.pack.specs.Reading.{Ending, whole, refused}
@@ -13,7 +14,7 @@ use Rattle.primary.specs.declared.Texts.{Texts}
 use Rattle.records.specs.Answers as records
 use Rattle.records.specs.declared.Kind as records-kind
 use Rattle.records.specs.declared.Kind.the-variants as kind-answer
-use Rattle.current_version.specs.Current.{Role, version, deletion, other, unreadable, Placed, Version, Answer, nothing, found, refusedAt, alone}
+use Rattle.current_version.specs.Current.{Role, version, deletion, other, unreadable, role, Placed, placedBy, Version, Answer, nothing, found, refusedAt, alone}
 use Rattle.lookup.specs.Walk.{placedFrom, Checked}
 use Rattle.lookup.specs.declared.Role as declared-role
 use Rattle.lookup.specs.declared.Role.the-variants as role-answer
@@ -45,6 +46,10 @@ abbrev pub roleFor : ℕ → Texts → records-kind.Kind → declared-role.Role
 roleFor by t kind-answer.Block = role-answer.Other
 roleFor by t (kind-answer.Version deleted) = role-answer.Version (shiftTexts by t) deleted
 roleFor by t (kind-answer.VersionDelete id) = role-answer.Deletion (shiftTexts by t)
+
+-- what a record is, if those of one tag are not read
+unfoldable pub roleBut : ℕ → ℕ → ℕ → List ℕ → Role
+roleBut limit skipped tag value = cond (eqb tag skipped) other (role limit tag value)
 
 -- ---- contents at places of the pack
 
@@ -107,8 +112,10 @@ pub record FoundInside (s : List ℕ) (r : Found) : Type 0 where
 
 -- ---- a record of a checked pack: what it is, and where the next one stands
 
-pub record Visits (limit : ℕ) (s : List ℕ) (at : ℕ) (v : Visited) : Type 0 where
-  pub first : placedFrom limit s at ≡ placedIn s at v ∷ placedFrom limit s (v .next)
+pub record Visits (limit skipped : ℕ) (s : List ℕ) (at : ℕ) (v : Visited) : Type 0 where
+  pub tag : ℕ
+  pub first : placedFrom limit s at ≡ placedBy limit at tag (valueIn s at (v .len)) ∷ placedFrom limit s (v .next)
+  pub seen : roleIn s (v .role) ≡ roleBut limit skipped tag (valueIn s at (v .len))
   pub checked : Checked s (v .next)
   pub forward : at < v .next
   pub inside : v .next ≤ length s
