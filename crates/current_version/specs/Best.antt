@@ -6,34 +6,10 @@ use mathlib.Core.Logic.{_⊎_, inl, inr, ⊎-elim}
 use mathlib.Core.Option.{Option, none, some}
 use mathlib.Core.Path.{_≡_, refl, sym, ap, subst, _∙_}
 use Rattle.msgpack.specs.HeadLaws.{absurd-numbers}
-use Rattle.identifier.specs.Texts.{less}
-use Rattle.identifier.specs.Order.{less-irreflexive, less-transitive, less-total}
+use Rattle.identifier.specs.Texts.{less, either, clash, not-so}
+use Rattle.identifier.specs.Order.{less-asymmetric, less-irreflexive, less-transitive, less-total, not-less-transitive}
 use Rattle.identifier.specs.Identity.{Identity}
 use Rattle.current_version.specs.Current.{Placed, Version, versionOf, filtered, better, best}
-
--- ---- a test comes out one way or the other
-
-pub either : (t : Bool) → (t ≡ true) ⊎ (t ≡ false)
-either true = inl refl
-either false = inr refl
-
-pub clash : {C : Type 0} {t : Bool} → t ≡ true → t ≡ false → C
-clash p q = absurd (true≢false (sym p ∙ q))
-
-pub not-so : (t : Bool) → (t ≡ true → ⊥) → t ≡ false
-not-so true h = absurd (h refl)
-not-so false h = refl
-
--- ---- the order of texts, where it says no
-
-pub less-asymmetric : (s t : List ℕ) → less s t ≡ true → less t s ≡ false
-less-asymmetric s t p = not-so (less t s) (λ q. clash (less-transitive s t s p q) (less-irreflexive s))
-
-pub neither-less : (s t : List ℕ) → less s t ≡ false → less t s ≡ false → s ≡ t
-neither-less s t p q = ⊎-elim (λ h. clash h p) (⊎-elim (λ e. e) (λ h. clash h q)) (less-total s t)
-
-not-less-transitive : (s t u : List ℕ) → less s t ≡ false → less t u ≡ false → less s u ≡ false
-not-less-transitive s t u p q = ⊎-elim (λ h. clash h p) (⊎-elim (λ e. subst (λ x. less x u ≡ false) (sym e) q) (λ h. not-so (less s u) (λ k. clash (less-transitive t s u h k) q))) (less-total s t)
 
 -- ---- the better of two
 

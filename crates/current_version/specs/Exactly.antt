@@ -9,12 +9,12 @@ use borrow.Author.Tests.{not-true}
 use Rattle.endian.specs.Bytes.{sameBytes, same-bytes-refl, same-bytes-equal}
 use Rattle.pack.specs.Reading.{Ending, whole, refused, reading}
 use Rattle.msgpack.specs.HeadLaws.{absurd-numbers}
-use Rattle.identifier.specs.Texts.{less, both}
-use Rattle.identifier.specs.Order.{less-irreflexive}
+use Rattle.identifier.specs.Texts.{less, either, clash, not-so, both}
+use Rattle.identifier.specs.Order.{less-irreflexive, neither-less}
 use Rattle.identifier.specs.Identity.{Identity, sameIdentity, sameIdentity-refl, sameIdentity-true}
 use Rattle.identifier.specs.Held.{hasName}
 use Rattle.current_version.specs.Current.{Role, version, deletion, other, unreadable, Placed, placed, Version, versionOf, deletes, isDeleted, isLive, current, Answer, nothing, found, refusedAt, alone, unreadableFirst, readability, unlessRefused, answerOf, answerIn, isName, lookup}
-use Rattle.current_version.specs.Best.{either, clash, not-so, neither-less, ulidOf, Passes, best-greatest, best-none, best-found, found-best, none-best}
+use Rattle.current_version.specs.Best.{ulidOf, Passes, best-greatest, best-none, best-found, found-best, none-best}
 
 -- ---- the account
 

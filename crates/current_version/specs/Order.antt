@@ -10,10 +10,11 @@ use Rattle.endian.specs.Bytes.{sameBytes, same-bytes-refl, same-bytes-equal}
 use Rattle.tlv.specs.Layout.{Record, Fits, layout, layouts}
 use Rattle.tlv.specs.Stands.{recordOf, record-of-layout}
 use Rattle.pack.specs.Acceptance.{AllFit}
+use Rattle.identifier.specs.Texts.{clash}
 use Rattle.identifier.specs.Identity.{Identity}
 use Rattle.current_version.specs.Current.{version, role, Placed, placedBy, Version, versionOf, current, isName, lookup}
 use Rattle.current_version.specs.Roles.{version-told, version-role}
-use Rattle.current_version.specs.Best.{clash, same-version}
+use Rattle.current_version.specs.Best.{same-version}
 use Rattle.current_version.specs.Exactly.{Live, IsCurrent, current-member, same-name, current-is, none-exactly}
 use Rattle.current_version.specs.Packs.{Readable, SameAnswer, unplaced, same-answers}
 

@@ -1,13 +1,13 @@
 -- The order of texts as bytes, which is that of ULIDs, is a strict total order.
 use Prim.Native.Nat.{ℕ, _<_}
-use mathlib.Core.Path.{_≡_, refl, sym, ap, _∙_}
+use mathlib.Core.Path.{_≡_, refl, sym, ap, subst, _∙_}
 use mathlib.Core.Bool.{Bool, true, false, cond, true≢false}
 use mathlib.Core.List.{List, [], _∷_}
 use mathlib.Core.Logic.{_⊎_, inl, inr, ⊎-elim}
 use native.Mathlib.Omega.{arith}
 use borrow.Author.Tests.{eqb-true, eqb-false, eq-eqb, ne-eqb, ltb-true, ltb-false, lt-ltb}
 use lib.Dec.{eqb, ltb}
-use Rattle.identifier.specs.Texts.{less}
+use Rattle.identifier.specs.Texts.{less, clash, not-so}
 
 pub less-irreflexive : (s : List ℕ) → less s s ≡ false
 unfolding less
@@ -72,3 +72,14 @@ less-total (x ∷ s) (y ∷ t) = heads (eqb x y) (ltb x y) refl refl (less-total
         let n : x ≡ y → ⊥ = eqb-false x y e in
         let h : y < x = omega (arith, ltb-false x y f, n) in
         inr (inr (less-first y x t s h))
+
+-- ---- where it says no
+
+pub less-asymmetric : (s t : List ℕ) → less s t ≡ true → less t s ≡ false
+less-asymmetric s t p = not-so (less t s) (λ q. clash (less-transitive s t s p q) (less-irreflexive s))
+
+pub neither-less : (s t : List ℕ) → less s t ≡ false → less t s ≡ false → s ≡ t
+neither-less s t p q = ⊎-elim (λ h. clash h p) (⊎-elim (λ e. e) (λ h. clash h q)) (less-total s t)
+
+pub not-less-transitive : (s t u : List ℕ) → less s t ≡ false → less t u ≡ false → less s u ≡ false
+not-less-transitive s t u p q = ⊎-elim (λ h. clash h p) (⊎-elim (λ e. subst (λ x. less x u ≡ false) (sym e) q) (λ h. not-so (less s u) (λ k. clash (less-transitive t s u h k) q))) (less-total s t)

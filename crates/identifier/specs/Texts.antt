@@ -1,8 +1,9 @@
 -- Texts as lists of bytes: a byte looked for, two texts compared.
 use Prim.Native.Nat.{ℕ, suc, _+_, _-_, _<_, _≤_, suc-le-suc}
-use mathlib.Core.Path.{_≡_, refl, sym, ap}
+use mathlib.Core.Path.{_≡_, refl, sym, ap, _∙_}
 use mathlib.Core.Bool.{Bool, true, false, cond, _&&_, _||_, true≢false}
 use mathlib.Core.List.{List, [], _∷_, _++_}
+use mathlib.Core.Logic.{_⊎_, inl, inr}
 use native.Mathlib.Nat.{le-refl, not-suc-le-zero, le-of-suc-le-suc}
 use native.Mathlib.Omega.{arith}
 use borrow.Author.Tests.{eqb-true, eq-eqb}
@@ -32,7 +33,18 @@ less [] (y ∷ t) = true
 less (x ∷ s) [] = false
 less (x ∷ s) (y ∷ t) = cond (eqb x y) (less s t) (ltb x y)
 
--- ---- two tests at once
+-- ---- tests
+
+pub either : (t : Bool) → (t ≡ true) ⊎ (t ≡ false)
+either true = inl refl
+either false = inr refl
+
+pub clash : {C : Type 0} {t : Bool} → t ≡ true → t ≡ false → C
+clash p q = absurd (true≢false (sym p ∙ q))
+
+pub not-so : (t : Bool) → (t ≡ true → ⊥) → t ≡ false
+not-so true h = absurd (h refl)
+not-so false h = refl
 
 pub both : (a b : Bool) → (a && b) ≡ true → (a ≡ true) × (b ≡ true)
 both true b e = (refl, e)

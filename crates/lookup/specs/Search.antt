@@ -10,7 +10,7 @@ use borrow.Author.Tests.{lt-ltb, ltb-true, eqb-true, ne-eqb, not-true}
 use lib.Dec.{eqb, ltb}
 use lib.ListN.{length, drop}
 use Rattle.pack.specs.Reading.{records}
-use Rattle.identifier.specs.Texts.{member, all, less, both}
+use Rattle.identifier.specs.Texts.{member, all, less, either, clash, not-so, both}
 use Rattle.identifier.specs.Order.{less-irreflexive, less-transitive}
 use Rattle.identifier.specs.Ulid.{alphabet, isCharacter, isUlid}
 use Rattle.identifier.specs.Identity.{Identity, isBucket, isObject, isValid}
@@ -18,7 +18,7 @@ use Rattle.identifier.specs.Held.{hasName}
 use Rattle.current_version.specs.Current.{Placed, valueOf, placed, Version, versionOf, filtered, best, isDeleted, isLive, current}
 use Rattle.current_version.specs.Roles.{version-told, version-role}
 use Rattle.lookup.specs.Walk.{placedFrom}
-use Rattle.current_version.specs.Best.{either, clash, not-so, ulidOf, Passes, Best, best-member, best-greatest, best-same, best-none, best-found, found-best, none-best}
+use Rattle.current_version.specs.Best.{ulidOf, Passes, Best, best-member, best-greatest, best-same, best-none, best-found, found-best, none-best}
 use Rattle.current_version.specs.Exactly.{same-name, has-name}
 
 -- below a bound: of the versions of this name, deleted or not, the best; and the current one
