@@ -63,11 +63,11 @@ enum {
     /* Where there is no secondary part, its length is 0, and its `c` and `z` are the primary's. */
     VOF_RECORD_SECONDARY_START,
     VOF_RECORD_SECONDARY_LENGTH,
-    /* The compression type `c`, and whether the crypt info `z` is there. */
-    VOF_RECORD_PRIMARY_C,
-    VOF_RECORD_PRIMARY_HAS_Z,
-    VOF_RECORD_SECONDARY_C,
-    VOF_RECORD_SECONDARY_HAS_Z,
+    /* The compression type `c`, 0 for none, and whether the crypt info `z` is there. */
+    VOF_RECORD_PRIMARY_COMPRESSION,
+    VOF_RECORD_PRIMARY_IS_ENCRYPTED,
+    VOF_RECORD_SECONDARY_COMPRESSION,
+    VOF_RECORD_SECONDARY_IS_ENCRYPTED,
     /* Whether a version is a delete marker; 0 in other records. */
     VOF_RECORD_IS_DELETE_MARKER,
     VOF_RECORD_COMPOSITE_LENGTH,
@@ -92,12 +92,12 @@ enum {
     VOF_VALUE_HAS_SECONDARY,
     VOF_VALUE_SECONDARY_START,
     VOF_VALUE_SECONDARY_LENGTH,
-    VOF_VALUE_PRIMARY_C,
-    VOF_VALUE_PRIMARY_HAS_Z,
-    VOF_VALUE_SECONDARY_C,
-    VOF_VALUE_SECONDARY_HAS_Z,
+    VOF_VALUE_PRIMARY_COMPRESSION,
+    VOF_VALUE_PRIMARY_IS_ENCRYPTED,
+    VOF_VALUE_SECONDARY_COMPRESSION,
+    VOF_VALUE_SECONDARY_IS_ENCRYPTED,
     /* The version `v` of the value's structure. */
-    VOF_VALUE_V,
+    VOF_VALUE_STRUCTURE_VERSION,
     VOF_VALUE_NUMBERS
 };
 

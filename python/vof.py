@@ -158,12 +158,22 @@ def _split(composite):
     return Identifier(composite[:26], bucket, object)
 
 
+def _view(data):
+    view = memoryview(data)
+    if view.itemsize != 1 or view.ndim != 1 or not view.contiguous:
+        raise TypeError("vof: bytes in one piece are wanted")
+    return view
+
+
 def _lent(data):
-    """The memory of the data, and its length. Only what is read-only and not bytes is copied."""
+    """The memory of the data, and its length. Only what is read-only and not bytes is copied.
+
+    Callers keep it in no variable: a refusal would keep that, and a bytearray that is lent cannot grow.
+    """
     if not isinstance(data, bytes):
-        view = memoryview(data)
+        view = _view(data)
         if not view.readonly:
-            return (ctypes.c_ubyte * view.nbytes).from_buffer(view), view.nbytes
+            return (ctypes.c_ubyte * len(view)).from_buffer(view), len(view)
         data = bytes(view)
     return data, len(data)
 
@@ -206,13 +216,12 @@ def xxh64(data):
 
 def scan(pack):
     """Checks a pack, and gives a list with an Entry for each record. Refusals 1 to 8."""
-    memory, length = _lent(pack)
-    most = length // 32
+    most = len(_view(pack)) // 32
     room = min(most, 4096)
     # How many records there are is known after the check, and only to a list that is long enough.
     while True:
         told = _numbers(3 * room)
-        answer = _library.vof_scan(memory, length, told, len(told))
+        answer = _library.vof_scan(*_lent(pack), told, len(told))
         if answer % 256 != 19 or room == most:
             break
         room = min(most, 16 * room)
@@ -226,16 +235,15 @@ def scan(pack):
 def record(pack, at):
     """The Record at a place of a pack; the rest of the pack is not looked at. Refusals 1 to 18, and 20
     for a place that is not inside the pack."""
-    memory, length = _lent(pack)
     told, composite = _numbers(16), ctypes.create_string_buffer(1115)
-    _word(_library.vof_record(memory, length, _size(at), told, 16, composite, len(composite)))
-    tag, by = _tag(told[0]), Place(*told[14:16])
+    _word(_library.vof_record(*_lent(pack), _size(at), told, 16, composite, len(composite)))
+    by = Place(*told[14:16])
     primary, secondary = _parts(told[3:5], told[5], told[6:8], told[8:12])
     return Record(
-        tag=tag,
+        tag=_tag(told[0]),
         identifier=_split(composite.raw[: told[13]]),
         is_delete_marker=bool(told[12]),
-        delete_ulid=bytes(memory[by.start : by.start + by.length]) or None,
+        delete_ulid=bytes(_view(pack)[by.start : by.start + by.length]) or None,
         value=Place(*told[1:3]),
         primary=primary,
         secondary=secondary,
@@ -275,14 +283,14 @@ def current(pack, bucket, object):
 
 
 def _buffer(buffer, used):
-    view = memoryview(buffer)
-    return (ctypes.c_ubyte * view.nbytes).from_buffer(view), view.nbytes, _size(used)
+    view = _view(buffer)
+    return (ctypes.c_ubyte * len(view)).from_buffer(view), len(view), _size(used)
 
 
 def write_block(buffer, used, identifier, data):
     """Writes a block. The identifier is an Identifier or its composite text."""
-    to = _buffer(buffer, used)
-    return _word(_library.vof_write_block(*to, *_composite(identifier), *_apart(data)))
+    given = *_composite(identifier), *_apart(data)
+    return _word(_library.vof_write_block(*_buffer(buffer, used), *given))
 
 
 def write_version(buffer, used, primary):
@@ -298,7 +306,5 @@ def write_delete(buffer, used, primary):
 def write_delete_of(buffer, used, identifier, delete_ulid):
     """Writes a version delete of the version that the identifier names, an Identifier or its composite
     text, with a delete ULID of its own."""
-    to = _buffer(buffer, used)
-    return _word(
-        _library.vof_write_delete_of(*to, *_composite(identifier), *_apart(delete_ulid))
-    )
+    given = *_composite(identifier), *_apart(delete_ulid)
+    return _word(_library.vof_write_delete_of(*_buffer(buffer, used), *given))
