@@ -11,11 +11,17 @@
     else:
         print(vof.record(pack, version.start).identifier)
 
-What is refused raises Refusal; docs/REFUSALS.md says what each number means and what to do about it.
+What is refused raises Refusal; docs/REFUSALS.md says what each number means and what to do.
 
-Packs, values and parts are bytes, or anything else that lends its memory, as a bytearray or an mmap;
-no other thread may change it during a call. Names and identifiers may be str too, which stands for
-its UTF-8. Answers have bytes, and tell places, counted from 0: nothing of a pack is copied.
+Packs, values and parts are bytes, or anything else that lends its memory, as a bytearray or an
+mmap; no other thread may change it during a call. It is not copied, unless it is read-only and not
+bytes: map a large file with mmap.ACCESS_COPY. Names and identifiers may be str too, which stands
+for its UTF-8. Answers have bytes, and tell places, counted from 0.
+
+The write functions put one record a call into a lent buffer, as a bytearray: each is told how many
+bytes at the front are the pack so far, 0 at first, puts its record directly after them and gives
+the new count. Refusals: 20 for what is not admitted, or would make the pack too long; 19 where the
+record does not fit into the buffer.
 
 bin/build-library makes the shared object that this module loads, dist/libvof.so; the environment
 variable VOF_LIBRARY names another.
@@ -100,7 +106,7 @@ class Value(NamedTuple):
 
 
 class Version(NamedTuple):
-    """An object's current version: the start of its record, and where its value stands in the pack."""
+    """An object's current version: where its record starts, and where its value stands."""
 
     identifier: Identifier
     is_delete_marker: bool
@@ -165,21 +171,26 @@ def _view(data):
     return view
 
 
-def _lent(data):
-    """The memory of the data, and its length. Only what is read-only and not bytes is copied.
+def _writable(view):
+    """The memory of a view, and its length.
 
-    Callers keep it in no variable: a refusal would keep that, and a bytearray that is lent cannot grow.
+    Callers keep it in no variable: a refusal would keep that, and lent bytearrays cannot grow.
     """
+    return (ctypes.c_ubyte * len(view)).from_buffer(view), len(view)
+
+
+def _lent(data):
+    """The same of data that is only read."""
     if not isinstance(data, bytes):
         view = _view(data)
         if not view.readonly:
-            return (ctypes.c_ubyte * len(view)).from_buffer(view), len(view)
+            return _writable(view)
         data = bytes(view)
     return data, len(data)
 
 
 def _apart(data):
-    """The same for a call that writes: of what could overlap the buffer, a copy."""
+    """The same beside a buffer that is written: of what could overlap it, a copy."""
     return _lent(data if isinstance(data, bytes) else _text(data))
 
 
@@ -233,10 +244,11 @@ def scan(pack):
 
 
 def record(pack, at):
-    """The Record at a place of a pack; the rest of the pack is not looked at. Refusals 1 to 18, and 20
-    for a place that is not inside the pack."""
+    """The Record at a place of a pack; the rest of the pack is not looked at. Refusals 1 to 18, and
+    20 for a place that is not inside the pack."""
     told, composite = _numbers(16), ctypes.create_string_buffer(1115)
     _word(_library.vof_record(*_lent(pack), _size(at), told, 16, composite, len(composite)))
+    # In the order of include/vof.h; so too below.
     by = Place(*told[14:16])
     primary, secondary = _parts(told[3:5], told[5], told[6:8], told[8:12])
     return Record(
@@ -251,18 +263,18 @@ def record(pack, at):
 
 
 def value(value):
-    """A Value taken apart, for whoever opens compressed or encrypted parts: how they are encoded, and
-    the structure's version, are told and not tested. Refusals 9 to 12."""
+    """A Value taken apart, for whoever opens compressed or encrypted parts: how they are encoded,
+    and the structure's version, are told and not tested. Refusals 9 to 12."""
     told = _numbers(10)
     _word(_library.vof_value(*_lent(value), told, 10))
     return Value(told[9], *_parts(told[0:2], told[2], told[3:5], told[5:9]))
 
 
 def current(pack, bucket, object):
-    """The current Version of an object, or None. If it is a delete marker, the object counts as deleted,
-    whatever older versions there are. Refusals 1 to 8 of the pack, then 9 to 12 and 14 to 18 of its
-    first version or version delete that cannot be read, all with the place; 20 for a name that breaks
-    the rules."""
+    """The current Version of an object, or None. If it is a delete marker, the object counts as
+    deleted, whatever older versions there are. Refusals 1 to 8 of the pack, then 9 to 12 and 14 to
+    18 of its first version or version delete that cannot be read, all with the place; 20 for a name
+    that breaks the rules."""
     bucket, object = _text(bucket), _text(object)
     told, ulid = _numbers(4), ctypes.create_string_buffer(26)
     names = *_lent(bucket), *_lent(object)
@@ -276,15 +288,10 @@ def current(pack, bucket, object):
 
 
 # ---- writing
-#
-# Each call is told how many bytes at the front of the buffer, a bytearray for instance, are the pack so
-# far, 0 at first; it puts one record directly after them and gives the new count. Refusals: 20 for
-# what is not admitted or would make the pack too long, 19 where the record does not fit.
 
 
 def _buffer(buffer, used):
-    view = _view(buffer)
-    return (ctypes.c_ubyte * len(view)).from_buffer(view), len(view), _size(used)
+    return *_writable(_view(buffer)), _size(used)
 
 
 def write_block(buffer, used, identifier, data):
@@ -304,7 +311,7 @@ def write_delete(buffer, used, primary):
 
 
 def write_delete_of(buffer, used, identifier, delete_ulid):
-    """Writes a version delete of the version that the identifier names, an Identifier or its composite
-    text, with a delete ULID of its own."""
+    """Writes a version delete of the version that the identifier, an Identifier or its composite
+    text, names; it has a delete ULID of its own."""
     given = *_composite(identifier), *_apart(delete_ulid)
     return _word(_library.vof_write_delete_of(*_buffer(buffer, used), *given))
