@@ -1,0 +1,162 @@
+/* LTFS-VOF packs, read and written by proved functions: link libvof.a or libvof.so, which
+   bin/build-library makes.
+
+   Every input has an answer: a result, or a refusal with a number from 1 to 20. docs/REFUSALS.md
+   says what each number means and what to do about it.
+
+   Each function but vof_xxh64 answers number + 256 * word, which vof_number and vof_word take
+   apart. The number is that of the refusal, or 0. The word is 0 where nothing else is said. "With
+   the place" means that the word is where in the pack the record at fault starts. A refusal writes
+   nothing into lent memory.
+
+   The caller owes what C cannot test: memory of the length that is said, numbers aligned as
+   uint64_t is, no memory lent for writing that overlaps other memory handed in, and no other thread
+   that changes any of it during the call. Of a length 0 the pointer plays no part. Lengths of
+   numbers are counted in elements, all others in bytes; places are counted from 0. Nothing is
+   allocated, and nothing is kept between calls. */
+#ifndef VOF_H
+#define VOF_H
+
+#include <stddef.h>
+#include <stdint.h>
+
+#ifdef __cplusplus
+extern "C" {
+#endif
+
+/* The refusal's number, or 0. */
+static inline unsigned vof_number(uint64_t answer) { return (unsigned)(answer % 256); }
+
+/* What the answer tells beside it: a place or a count. */
+static inline uint64_t vof_word(uint64_t answer) { return answer / 256; }
+
+/* Tags of the records that can be read one by one: "bk", "vr" and "vd" as numbers. */
+enum { VOF_BLOCK = 0x626B, VOF_VERSION = 0x7672, VOF_VERSION_DELETE = 0x7664 };
+
+enum {
+    VOF_ULID_LENGTH = 26,
+    /* The longest composite text, `ULID:bucket/object`. */
+    VOF_COMPOSITE_LENGTH = 1115
+};
+
+/* The XXH64 of the bytes, seed 0. */
+uint64_t vof_xxh64(const uint8_t *data, size_t data_length);
+
+/* ---- reading */
+
+/* What vof_scan tells of each record. */
+enum { VOF_SCAN_START, VOF_SCAN_TAG, VOF_SCAN_VALUE_LENGTH, VOF_SCAN_NUMBERS };
+
+/* Checks a pack, and lists its records in their order.
+   Word: how many there are. `told` then has VOF_SCAN_NUMBERS numbers for each, and keeps the rest.
+   A pack has at most one record for each 32 of its bytes.
+   Refusals: 1 to 8, with the place; 19 where `told` is too short for all records. */
+uint64_t vof_scan(const uint8_t *pack, size_t pack_length, uint64_t *told, size_t told_length);
+
+/* What vof_record tells. Starts are places in the pack; questions are answered by 0 or 1. */
+enum {
+    VOF_RECORD_TAG,
+    VOF_RECORD_VALUE_START,
+    VOF_RECORD_VALUE_LENGTH,
+    VOF_RECORD_PRIMARY_START,
+    VOF_RECORD_PRIMARY_LENGTH,
+    VOF_RECORD_HAS_SECONDARY,
+    /* Where there is no secondary part, its length is 0, and its `c` and `z` are the primary's. */
+    VOF_RECORD_SECONDARY_START,
+    VOF_RECORD_SECONDARY_LENGTH,
+    /* The compression type `c`, 0 for none, and whether the crypt info `z` is there. */
+    VOF_RECORD_PRIMARY_COMPRESSION,
+    VOF_RECORD_PRIMARY_IS_ENCRYPTED,
+    VOF_RECORD_SECONDARY_COMPRESSION,
+    VOF_RECORD_SECONDARY_IS_ENCRYPTED,
+    /* Whether a version is a delete marker; 0 in other records. */
+    VOF_RECORD_IS_DELETE_MARKER,
+    VOF_RECORD_COMPOSITE_LENGTH,
+    /* A version delete's delete identifier; 0 and 0 in other records. */
+    VOF_RECORD_DELETE_ULID_START,
+    VOF_RECORD_DELETE_ULID_LENGTH,
+    VOF_RECORD_NUMBERS
+};
+
+/* Reads the record at a place of a pack. The rest of the pack is not looked at.
+   `told` then has VOF_RECORD_NUMBERS numbers, and `id` the identifier's composite text, whose
+   length is one of them; both keep the rest.
+   Refusals: 20 where the place is not inside the pack; 1 to 8, with the place; 9 to 18; 19 where
+   `told` or `id` is too short. VOF_COMPOSITE_LENGTH bytes suffice for any `id`. */
+uint64_t vof_record(const uint8_t *pack, size_t pack_length, size_t at, uint64_t *told,
+                    size_t told_length, uint8_t *id, size_t id_length);
+
+/* What vof_value tells, as vof_record does; but starts are places in the value. */
+enum {
+    VOF_VALUE_PRIMARY_START,
+    VOF_VALUE_PRIMARY_LENGTH,
+    VOF_VALUE_HAS_SECONDARY,
+    VOF_VALUE_SECONDARY_START,
+    VOF_VALUE_SECONDARY_LENGTH,
+    VOF_VALUE_PRIMARY_COMPRESSION,
+    VOF_VALUE_PRIMARY_IS_ENCRYPTED,
+    VOF_VALUE_SECONDARY_COMPRESSION,
+    VOF_VALUE_SECONDARY_IS_ENCRYPTED,
+    /* The version `v` of the value's structure. */
+    VOF_VALUE_STRUCTURE_VERSION,
+    VOF_VALUE_NUMBERS
+};
+
+/* Takes a value apart, for whoever opens compressed or encrypted parts: `c`, `z` and `v` are told
+   and not tested.
+   `told` then has VOF_VALUE_NUMBERS numbers, and keeps the rest.
+   Refusals: 9 to 12; 19 where `told` is too short. */
+uint64_t vof_value(const uint8_t *value, size_t value_length, uint64_t *told, size_t told_length);
+
+/* What vof_current tells: four zeros where there is no current version. */
+enum {
+    VOF_CURRENT_FOUND,
+    VOF_CURRENT_RECORD_START,
+    VOF_CURRENT_VALUE_LENGTH,
+    VOF_CURRENT_IS_DELETE_MARKER,
+    VOF_CURRENT_NUMBERS
+};
+
+/* Looks up the current version of an object. A delete marker that is current is told as such: the
+   object then counts as deleted, whatever older versions there are.
+   `told` then has VOF_CURRENT_NUMBERS numbers, and `ulid`, where a version was found, its ULID in
+   VOF_ULID_LENGTH bytes; both keep the rest.
+   Refusals: 20 where the bucket or the object breaks the rules for names; 1 to 8 of the pack, then
+   9 to 12 and 14 to 18 of its first version or version delete that cannot be read, all with the
+   place; 19 where `told` is too short, or `ulid` where a version was found. */
+uint64_t vof_current(const uint8_t *pack, size_t pack_length, const uint8_t *bucket,
+                     size_t bucket_length, const uint8_t *object, size_t object_length,
+                     uint64_t *told, size_t told_length, uint8_t *ulid, size_t ulid_length);
+
+/* ---- writing
+
+   Each call is told how many bytes at the front of `buf` are the pack so far, 0 at first, and puts
+   one record directly after them. These bytes are not looked at, and every other byte keeps its
+   content.
+   Word: the new count.
+   Refusals: 20 where what is handed in is not admitted, or the pack would become longer than
+   4,294,967,295 bytes; 19 where the record does not fit into `buf`. */
+
+/* A block with this data. `id` is the composite text. */
+uint64_t vof_write_block(uint8_t *buf, size_t buf_length, size_t used, const uint8_t *id,
+                         size_t id_length, const uint8_t *data, size_t data_length);
+
+/* A version with this primary part, which must read as one (16 to 18). */
+uint64_t vof_write_version(uint8_t *buf, size_t buf_length, size_t used, const uint8_t *primary,
+                           size_t primary_length);
+
+/* A version delete with this primary part, which must read as one (16 to 18). */
+uint64_t vof_write_delete(uint8_t *buf, size_t buf_length, size_t used, const uint8_t *primary,
+                          size_t primary_length);
+
+/* A version delete made from the identifier of the version that goes, as composite text, and a
+   delete ULID of its own. */
+uint64_t vof_write_delete_of(uint8_t *buf, size_t buf_length, size_t used, const uint8_t *id,
+                             size_t id_length, const uint8_t *delete_ulid,
+                             size_t delete_ulid_length);
+
+#ifdef __cplusplus
+}
+#endif
+
+#endif

@@ -1,0 +1,317 @@
+"""LTFS-VOF packs, read and written by the proved library (include/vof.h), with ctypes.
+
+    import vof
+
+    pack = open("samples/herd.pack", "rb").read()
+    for entry in vof.scan(pack):
+        print(entry.start, entry.tag, entry.value_length)
+    version = vof.current(pack, "herd", "signers/list")
+    if version is None or version.is_delete_marker:
+        print("there is no such object")
+    else:
+        print(vof.record(pack, version.start).identifier)
+
+What is refused raises Refusal; docs/REFUSALS.md says what each number means and what to do.
+
+Packs, values and parts are bytes, or anything else that lends its memory, as a bytearray or an
+mmap; no other thread may change it during a call. It is not copied, unless it is read-only and not
+bytes: map a large file with mmap.ACCESS_COPY. Names and identifiers may be str too, which stands
+for its UTF-8. Answers have bytes, and tell places, counted from 0.
+
+The write functions put one record a call into a lent buffer, as a bytearray: each is told how many
+bytes at the front are the pack so far, 0 at first, puts its record directly after them and gives
+the new count. Refusals: 20 for what is not admitted, or would make the pack too long; 19 where the
+record does not fit into the buffer.
+
+bin/build-library makes the shared object that this module loads, dist/libvof.so; the environment
+variable VOF_LIBRARY names another.
+"""
+import ctypes
+import os
+from typing import NamedTuple, Optional
+
+
+class Refusal(Exception):
+    """A refusal: its number, and the start of the record at fault, or None where none is named."""
+
+    def __init__(self, number, place=None):
+        super().__init__(number, place)
+        self.number, self.place = number, place
+
+    def __str__(self):
+        at = "" if self.place is None else " at %d" % self.place
+        return "refused %d%s" % (self.number, at)
+
+
+class Entry(NamedTuple):
+    """A record as a scan lists it."""
+
+    start: int
+    tag: bytes
+    value_length: int
+
+
+class Place(NamedTuple):
+    """Bytes in a pack."""
+
+    start: int
+    length: int
+
+
+class Part(NamedTuple):
+    """A part of a value, and how it is encoded."""
+
+    start: int
+    length: int
+    compression: int
+    is_encrypted: bool
+
+
+class Identifier(NamedTuple):
+    """A version's identifier."""
+
+    ulid: bytes
+    bucket: bytes
+    object: bytes
+
+    def composite(self):
+        """The identifier as one text; refused if the text would read as another identifier."""
+        parts = Identifier(*map(_text, self))
+        text = b"%b:%b/%b" % parts
+        if _split(text) != parts:
+            raise Refusal(20)
+        return text
+
+
+class Record(NamedTuple):
+    """A block, a version or a version delete; its value and its parts are places of the pack."""
+
+    tag: bytes
+    identifier: Identifier
+    # Only a version is one.
+    is_delete_marker: bool
+    # Only a version delete has one.
+    delete_ulid: Optional[bytes]
+    value: Place
+    primary: Part
+    secondary: Optional[Part]
+
+
+class Value(NamedTuple):
+    """A value taken apart; its parts are places of the value."""
+
+    structure_version: int
+    primary: Part
+    secondary: Optional[Part]
+
+
+class Version(NamedTuple):
+    """An object's current version: where its record starts, and where its value stands."""
+
+    identifier: Identifier
+    is_delete_marker: bool
+    start: int
+    value: Place
+
+
+# ---- the shared object
+
+_BYTES, _SIZE = ctypes.c_void_p, ctypes.c_size_t
+_NUMBERS = ctypes.POINTER(ctypes.c_uint64)
+_READ, _TOLD, _WRITE = [_BYTES, _SIZE], [_NUMBERS, _SIZE], [_BYTES, _SIZE, _SIZE]
+_FUNCTIONS = {
+    "vof_xxh64": _READ,
+    "vof_scan": _READ + _TOLD,
+    "vof_record": _READ + [_SIZE] + _TOLD + [_BYTES, _SIZE],
+    "vof_value": _READ + _TOLD,
+    "vof_current": _READ * 3 + _TOLD + [_BYTES, _SIZE],
+    "vof_write_block": _WRITE + _READ * 2,
+    "vof_write_version": _WRITE + _READ,
+    "vof_write_delete": _WRITE + _READ,
+    "vof_write_delete_of": _WRITE + _READ * 2,
+}
+
+
+def _load():
+    root = os.path.dirname(os.path.dirname(os.path.realpath(__file__)))
+    path = os.environ.get("VOF_LIBRARY") or os.path.join(root, "dist", "libvof.so")
+    if not os.path.exists(path):
+        raise ImportError("vof: there is no %s; bin/build-library makes dist/libvof.so" % path)
+    library = ctypes.CDLL(os.path.abspath(path))
+    for name, parameters in _FUNCTIONS.items():
+        function = getattr(library, name)
+        function.argtypes, function.restype = parameters, ctypes.c_uint64
+    return library
+
+
+_library = _load()
+
+
+def _word(answer, last_with_place=8):
+    """The word of an answer; a refusal is raised, with its place up to this number."""
+    word, number = divmod(answer, 256)
+    if number:
+        raise Refusal(number, word if number <= last_with_place else None)
+    return word
+
+
+def _text(text):
+    return text.encode() if isinstance(text, str) else bytes(memoryview(text))
+
+
+def _split(composite):
+    bucket, _, object = composite[27:].partition(b"/")
+    return Identifier(composite[:26], bucket, object)
+
+
+def _view(data):
+    view = memoryview(data)
+    if view.itemsize != 1 or view.ndim != 1 or not view.contiguous:
+        raise TypeError("vof: bytes in one piece are wanted")
+    return view
+
+
+def _writable(view):
+    """The memory of a view, and its length.
+
+    Callers keep it in no variable: a refusal would keep that, and lent bytearrays cannot grow.
+    """
+    return (ctypes.c_ubyte * len(view)).from_buffer(view), len(view)
+
+
+def _lent(data):
+    """The same of data that is only read."""
+    if not isinstance(data, bytes):
+        view = _view(data)
+        if not view.readonly:
+            return _writable(view)
+        data = bytes(view)
+    return data, len(data)
+
+
+def _apart(data):
+    """The same beside a buffer that is written: of what could overlap it, a copy."""
+    return _lent(data if isinstance(data, bytes) else _text(data))
+
+
+def _composite(identifier):
+    return _apart(identifier.composite() if isinstance(identifier, Identifier) else identifier)
+
+
+def _size(n):
+    """A place or a count; one that C could not hold is outside every pack, as the greatest is."""
+    return n if 0 <= n < 2**64 else 2**64 - 1
+
+
+def _numbers(count):
+    return (ctypes.c_uint64 * count)()
+
+
+def _tag(number):
+    return number.to_bytes(2, "big")
+
+
+def _parts(primary, has_secondary, secondary, encoding):
+    """The primary and the secondary part from their starts, lengths and encodings."""
+    first = Part(*primary, encoding[0], bool(encoding[1]))
+    return first, Part(*secondary, encoding[2], bool(encoding[3])) if has_secondary else None
+
+
+# ---- reading
+
+
+def xxh64(data):
+    """The XXH64 of the data, seed 0."""
+    return _library.vof_xxh64(*_lent(data))
+
+
+def scan(pack):
+    """Checks a pack, and gives a list with an Entry for each record. Refusals 1 to 8."""
+    most = len(_view(pack)) // 32
+    room = min(most, 4096)
+    # How many records there are is known after the check, and only to a list that is long enough.
+    while True:
+        told = _numbers(3 * room)
+        answer = _library.vof_scan(*_lent(pack), told, len(told))
+        if answer % 256 != 19 or room == most:
+            break
+        room = min(most, 16 * room)
+    numbers = told[: 3 * _word(answer)]
+    return [
+        Entry(start, _tag(tag), value_length)
+        for start, tag, value_length in zip(numbers[::3], numbers[1::3], numbers[2::3])
+    ]
+
+
+def record(pack, at):
+    """The Record at a place of a pack; the rest of the pack is not looked at. Refusals 1 to 18, and
+    20 for a place that is not inside the pack."""
+    told, composite = _numbers(16), ctypes.create_string_buffer(1115)
+    _word(_library.vof_record(*_lent(pack), _size(at), told, 16, composite, len(composite)))
+    # In the order of include/vof.h; so too below.
+    by = Place(*told[14:16])
+    primary, secondary = _parts(told[3:5], told[5], told[6:8], told[8:12])
+    return Record(
+        tag=_tag(told[0]),
+        identifier=_split(composite.raw[: told[13]]),
+        is_delete_marker=bool(told[12]),
+        delete_ulid=bytes(_view(pack)[by.start : by.start + by.length]) or None,
+        value=Place(*told[1:3]),
+        primary=primary,
+        secondary=secondary,
+    )
+
+
+def value(value):
+    """A Value taken apart, for whoever opens compressed or encrypted parts: how they are encoded,
+    and the structure's version, are told and not tested. Refusals 9 to 12."""
+    told = _numbers(10)
+    _word(_library.vof_value(*_lent(value), told, 10))
+    return Value(told[9], *_parts(told[0:2], told[2], told[3:5], told[5:9]))
+
+
+def current(pack, bucket, object):
+    """The current Version of an object, or None. If it is a delete marker, the object counts as
+    deleted, whatever older versions there are. Refusals 1 to 8 of the pack, then 9 to 12 and 14 to
+    18 of its first version or version delete that cannot be read, all with the place; 20 for a name
+    that breaks the rules."""
+    bucket, object = _text(bucket), _text(object)
+    told, ulid = _numbers(4), ctypes.create_string_buffer(26)
+    names = *_lent(bucket), *_lent(object)
+    answer = _library.vof_current(*_lent(pack), *names, told, 4, ulid, 26)
+    _word(answer, last_with_place=18)
+    found, start, value_length, is_delete_marker = told
+    if not found:
+        return None
+    identifier = Identifier(ulid.raw, bucket, object)
+    return Version(identifier, bool(is_delete_marker), start, Place(start + 32, value_length))
+
+
+# ---- writing
+
+
+def _buffer(buffer, used):
+    return *_writable(_view(buffer)), _size(used)
+
+
+def write_block(buffer, used, identifier, data):
+    """Writes a block. The identifier is an Identifier or its composite text."""
+    given = *_composite(identifier), *_apart(data)
+    return _word(_library.vof_write_block(*_buffer(buffer, used), *given))
+
+
+def write_version(buffer, used, primary):
+    """Writes a version with this primary part, which must read as one."""
+    return _word(_library.vof_write_version(*_buffer(buffer, used), *_apart(primary)))
+
+
+def write_delete(buffer, used, primary):
+    """Writes a version delete with this primary part, which must read as one."""
+    return _word(_library.vof_write_delete(*_buffer(buffer, used), *_apart(primary)))
+
+
+def write_delete_of(buffer, used, identifier, delete_ulid):
+    """Writes a version delete of the version that the identifier, an Identifier or its composite
+    text, names; it has a delete ULID of its own."""
+    given = *_composite(identifier), *_apart(delete_ulid)
+    return _word(_library.vof_write_delete_of(*_buffer(buffer, used), *given))
