@@ -1,4 +1,6 @@
 // The functions that C, Rust and Python link.
+mod words;
+
 ghost use mathlib.Core.Path.{_≡_};
 ghost use Rattle.xxh64.specs.Xxh64.{xxh64};
 
