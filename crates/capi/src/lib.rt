@@ -1,4 +1,5 @@
 // The functions that C, Rust and Python link.
+mod scan;
 mod words;
 
 ghost use mathlib.Core.Path.{_≡_};
