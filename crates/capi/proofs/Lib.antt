@@ -1,3 +1,4 @@
 mod Bounds
 mod Filling
 mod Scanning
+mod Telling

@@ -1,5 +1,6 @@
 // The functions that C, Rust and Python link.
 mod scan;
+mod values;
 mod words;
 
 ghost use mathlib.Core.Path.{_≡_};

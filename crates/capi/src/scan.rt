@@ -6,8 +6,7 @@ ghost use Rattle.endian.specs.Places.{overwritten};
 ghost use Rattle.pack.specs.Reading.{reading, packLimit};
 ghost use Rattle.pack.specs.Scan.{scanned, firstEntries};
 ghost use Rattle.capi.specs.Scan.{entryWords, outcomeAnswer, scanTold};
-use crate::words::answer;
-use crate::words::store;
+use crate::words;
 use pack::Checked;
 
 // The first n records of a pack that has been checked go to the front.
@@ -20,8 +19,8 @@ fn fill(pack: &[u8], told: &mut [u64], n: usize)
     while i < n {
         let passed = tlv::pass_at(pack, at);
         let header = passed.header;
-        let words = [at as u64, header.tag as u64, header.length];
-        store(told, 3 * i, &words);
+        let entry = [at as u64, header.tag as u64, header.length];
+        words::store(told, 3 * i, &entry);
         at = passed.next;
         i += 1;
     }
@@ -31,18 +30,18 @@ fn fill(pack: &[u8], told: &mut [u64], n: usize)
 // count. 19: fewer than three words for each record.
 #[no_mangle]
 pub extern "C" fn vof_scan(pack: &[u8], told: &mut [u64]) -> u64
-    ensures { λ r. ⌜ r ≡ outcomeAnswer (scanned (reading packLimit (now (pack .entry))) (length (now (told .entry)) / 3)) ⌝ }
-    ensures { λ _. ⌜ now (told .exit) ≡ scanTold (reading packLimit (now (pack .entry))) (now (told .entry)) ⌝ }
+    ensures answer { λ r. ⌜ r ≡ outcomeAnswer (scanned (reading packLimit (now (pack .entry))) (length (now (told .entry)) / 3)) ⌝ }
+    ensures told { λ _. ⌜ now (told .exit) ≡ scanTold (reading packLimit (now (pack .entry))) (now (told .entry)) ⌝ }
 {
     match pack::check(pack) {
         Checked::Records(n) => {
             if told.len() / 3 < n {
-                return answer(19, 0);
+                return words::answer(19, 0);
             }
             fill(pack, told, n);
-            answer(0, n)
+            words::answer(0, n)
         }
-        Checked::TooLong => answer(1, 0),
-        Checked::Fault(f, at) => answer(tlv::number(f), at),
+        Checked::TooLong => words::answer(1, 0),
+        Checked::Fault(f, at) => words::answer(tlv::number(f), at),
     }
 }

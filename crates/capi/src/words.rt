@@ -4,7 +4,7 @@ ghost use Prim.Native.Nat.{_+_, _≤_};
 ghost use lib.ListN.{length};
 ghost use Rattle.endian.specs.Places.{overwritten};
 ghost use Rattle.pack.specs.Reading.{packLimit};
-ghost use Rattle.capi.specs.Words.{answer};
+ghost use Rattle.capi.specs.Words.{answer, flag};
 
 // A refusal's number, or 0, and with it a place or a count.
 pub(crate) fn answer(number: u8, word: usize) -> u64
@@ -12,6 +12,13 @@ pub(crate) fn answer(number: u8, word: usize) -> u64
     ensures { λ r. ⌜ r ≡ answer number word ⌝ }
 {
     number as u64 + 256 * (word as u64)
+}
+
+// A flag as a word.
+pub(crate) fn flag(set: bool) -> u64
+    ensures { λ r. ⌜ r ≡ flag set ⌝ }
+{
+    if set { 1 } else { 0 }
 }
 
 // The words take the place of those from at on.
