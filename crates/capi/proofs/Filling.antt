@@ -4,7 +4,7 @@ use mathlib.Core.List.{List, [], _∷_, append-nil}
 use mathlib.Core.Path.{_≡_, refl, sym, ap, _∙_}
 use native.Mathlib.Nat.{add-zero}
 use native.Mathlib.Omega.{arith}
-use lib.ListN.{length, length-append, take-append-drop}
+use lib.ListN.{length, take-append-drop}
 use Rattle.endian.specs.Places.{overwritten, length-overwritten, overwritten-more}
 use Rattle.tlv.specs.Passing.{passAt}
 use Rattle.pack.specs.Reading.{entryAt}
@@ -22,7 +22,7 @@ unfolding entryWords
 length-words [] = refl
 length-words (e ∷ es) = omega (arith, length-words es)
 
-none-written : (s : List ℕ) (at : ℕ) → overwritten s at [] ≡ s
+pub none-written : (s : List ℕ) (at : ℕ) → overwritten s at [] ≡ s
 unfolding overwritten
 none-written s at = rw (append-nil, add-zero, take-append-drop)
 

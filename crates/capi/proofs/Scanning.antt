@@ -1,12 +1,12 @@
 -- The answer of a scan, and the lent words at exit, from what the check found.
 use Prim.Native.Nat.{ℕ, _/_, _≤_, _<_}
 use mathlib.Core.List.{List}
-use mathlib.Core.Path.{_≡_, refl, sym, ap, _∙_}
+use mathlib.Core.Path.{_≡_, refl, sym, ap}
 use native.Mathlib.Omega.{arith}
 use borrow.Author.Tests.{le-leb, lt-leb}
 use lib.ListN.{length}
 use Rattle.endian.specs.Places.{overwritten}
-use Rattle.pack.specs.Reading.{Reading, Ending, whole, refused, Outcome, counted, outcome, reading, packLimit}
+use Rattle.pack.specs.Reading.{Reading, Ending, whole, refused, counted, outcome, reading, packLimit}
 use Rattle.pack.specs.Acceptance.{accepted-reading}
 use Rattle.pack.specs.Scan.{scanned, firstEntries, first-entries}
 use Rattle.pack.specs.declared.Entry.{Entry}

@@ -1,6 +1,6 @@
 -- `capi::scan::fill` meets its contract: what the whole leaves is what the rest leaves from here.
 use borrow.Author.Needs.{needs}
-use mathlib.Core.Path.{_≡_, _∙_}
+use mathlib.Core.Path.{_∙_}
 use Prim.Native.Nat.{_-_}
 use native.Mathlib.Omega.{arith}
 use Rattle.capi.proofs.Filling.{Filling, starts, has-room, goes-on, ends}

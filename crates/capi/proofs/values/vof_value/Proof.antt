@@ -3,7 +3,7 @@ use borrow.Author.Needs.{needs}
 use mathlib.Core.Path.{_≡_, sym, ap, _∙_}
 use native.Mathlib.Omega.{arith}
 use Rattle.pack.specs.Reading.{packLimit}
-use Rattle.value.specs.Reading.{told, refused, reading, numberOf, answerOf}
+use Rattle.value.specs.Reading.{told, reading, answerOf}
 use Rattle.capi.proofs.Telling.{value-refused, value-short, value-told}
 use Rattle.capi.proofs.values.vof_value.Statement.{statement}
 use Rattle.capi.proofs.values.vof_value.Tie as tie
