@@ -1,4 +1,9 @@
 // The functions that C, Rust and Python link.
+mod current;
+mod scan;
+mod values;
+mod words;
+
 ghost use mathlib.Core.Path.{_≡_};
 ghost use Rattle.xxh64.specs.Xxh64.{xxh64};
 

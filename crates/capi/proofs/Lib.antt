@@ -1,0 +1,5 @@
+mod Bounds
+mod Filling
+mod Scanning
+mod Telling
+mod Looking
