@@ -13,43 +13,51 @@ mod tlv;
 
 use records::{object, version, version_delete, Pack, BUCKET};
 
-// The proved function, from target/staticlib/libbench.a.
-#[link(name = "bench", kind = "static")]
+// The proved function, from target/staticlib/libcapi.a.
+#[link(name = "capi", kind = "static")]
 extern "C" {
-    fn bench_lookup(
+    fn vof_current(
         pack: *const u8,
         pack_len: usize,
         bucket: *const u8,
         bucket_len: usize,
         object: *const u8,
         object_len: usize,
+        told: *mut u64,
+        told_len: usize,
+        ulid: *mut u8,
+        ulid_len: usize,
     ) -> u64;
 }
 
-/// The start of the current version's record plus 1, or 0 where there is none or a refusal.
-fn proved(pack: &[u8], bucket: &str, object: &str) -> u64 {
-    // SAFETY: the pointers and lengths are those of slices, and the function only reads them.
-    unsafe {
-        bench_lookup(
+/// The start of the current version's record, or the number of the refusal.
+type Answer = Result<Option<usize>, u32>;
+
+fn proved(pack: &[u8], bucket: &str, object: &str) -> Answer {
+    let (mut told, mut ulid) = ([0; 4], [0; 26]);
+    // SAFETY: the pointers and lengths are those of slices, and only `told` and `ulid` are written.
+    let answer = unsafe {
+        vof_current(
             pack.as_ptr(),
             pack.len(),
             bucket.as_ptr(),
             bucket.len(),
             object.as_ptr(),
             object.len(),
+            told.as_mut_ptr(),
+            told.len(),
+            ulid.as_mut_ptr(),
+            ulid.len(),
         )
+    };
+    match answer % 256 {
+        0 => Ok((told[0] == 1).then_some(told[1] as usize)),
+        number => Err(number as u32),
     }
 }
 
-type Answer = Result<Option<usize>, u32>;
-
 fn rust(pack: &[u8], bucket: &str, object: &str) -> Answer {
     plain_lookup::lookup(pack, bucket.as_bytes(), object.as_bytes())
-}
-
-/// The one number of the proved function for an answer.
-fn number(answer: Answer) -> u64 {
-    answer.ok().flatten().map_or(0, |start| start as u64 + 1)
 }
 
 fn fail(what: &str) -> ! {
@@ -58,10 +66,10 @@ fn fail(what: &str) -> ! {
 }
 
 /// Figures of a function that gives a wrong answer would mean nothing.
-fn expect(want: Answer, p: u64, r: Answer, what: &str) {
-    if p != number(want) || r != want {
+fn expect(want: Answer, p: Answer, r: Answer, what: &str) {
+    if p != want || r != want {
         fail(&format!(
-            "{what}: proved gives {p}, Rust {r:?}, where {want:?} is right"
+            "{what}: proved gives {p:?}, Rust {r:?}, where {want:?} is right"
         ));
     }
 }
@@ -216,7 +224,7 @@ fn python(pack: &[u8], object: &str) -> Option<(String, f64)> {
 fn measure(versions: usize, objects: usize, deleted: usize) {
     let pack = Pack::new(versions, objects, deleted);
     let name = object(0);
-    let (mut p_answer, mut r_answer) = (0, Ok(None));
+    let (mut p_answer, mut r_answer) = (Ok(None), Ok(None));
     let (p, r) = timing::compare(
         || p_answer = black_box(proved(black_box(&pack.bytes), BUCKET, &name)),
         || r_answer = black_box(rust(black_box(&pack.bytes), BUCKET, &name)),

@@ -1,4 +1,4 @@
-//! The proved check of a whole pack against a plain one in Rust, on the same bytes and in one run.
+//! The proved scan of a whole pack against a plain check in Rust, on the same bytes and in one run.
 
 use std::hint::black_box;
 use std::process::exit;
@@ -7,16 +7,20 @@ mod plain;
 mod timing;
 mod tlv;
 
-// The proved function, from target/staticlib/libbench.a.
-#[link(name = "bench", kind = "static")]
+// The proved function, from target/staticlib/libcapi.a.
+#[link(name = "capi", kind = "static")]
 extern "C" {
-    fn bench_check(pack: *const u8, len: usize) -> u64;
+    fn vof_scan(pack: *const u8, pack_len: usize, told: *mut u64, told_len: usize) -> u64;
 }
 
-/// How many records the pack has, or 0 where it is refused.
-fn proved(pack: &[u8]) -> u64 {
-    // SAFETY: the pointer and the length are those of a slice, and the function only reads it.
-    unsafe { bench_check(pack.as_ptr(), pack.len()) }
+/// How many records the pack has, or the number of its refusal. Their entries are told.
+fn proved(pack: &[u8], told: &mut [u64]) -> Result<u64, u32> {
+    // SAFETY: the pointers and lengths are those of slices, and only `told` is written.
+    let answer = unsafe { vof_scan(pack.as_ptr(), pack.len(), told.as_mut_ptr(), told.len()) };
+    match answer % 256 {
+        0 => Ok(answer / 256),
+        number => Err(number as u32),
+    }
 }
 
 /// How many records the pack has, or the number of its refusal, after document 01.
@@ -59,23 +63,23 @@ const FLIPS: [(u32, &[usize]); 5] = [
     (8, &[32, 63, 64, 5000, 10015, 10016, RECORD - 1]),
 ];
 
-fn expect(want: Result<u64, u32>, pack: &[u8], what: &str) {
-    let (p, r) = (proved(pack), rust(pack));
-    if p != want.unwrap_or(0) || r != want {
-        eprintln!("pack: {what}: proved gives {p}, Rust {r:?}, where {want:?} is right");
+fn expect(want: Result<u64, u32>, pack: &[u8], told: &mut [u64], what: &str) {
+    let (p, r) = (proved(pack, told), rust(pack));
+    if p != want || r != want {
+        eprintln!("pack: {what}: proved gives {p:?}, Rust {r:?}, where {want:?} is right");
         exit(1);
     }
 }
 
 /// Figures of a function that takes a bad pack would mean nothing.
-fn check(pack: &mut [u8]) {
-    expect(Ok(RECORDS as u64), pack, "the good pack");
+fn check(pack: &mut [u8], told: &mut [u64]) {
+    expect(Ok(RECORDS as u64), pack, told, "the good pack");
     for record in [0, RECORDS / 2, RECORDS - 1] {
         for (refusal, places) in FLIPS {
             for place in places {
                 let at = record * RECORD + place;
                 pack[at] ^= 1;
-                expect(Err(refusal), pack, &format!("byte {at} flipped"));
+                expect(Err(refusal), pack, told, &format!("byte {at} flipped"));
                 pack[at] ^= 1;
             }
         }
@@ -83,18 +87,24 @@ fn check(pack: &mut [u8]) {
     // Without its last byte, and with 31 bytes of the last header.
     for (refusal, cut) in [(7, 1), (2, VALUE + 1)] {
         let cut_pack = &pack[..pack.len() - cut];
-        expect(Err(refusal), cut_pack, &format!("{cut} bytes cut off"));
+        expect(
+            Err(refusal),
+            cut_pack,
+            told,
+            &format!("{cut} bytes cut off"),
+        );
     }
 }
 
 fn main() {
     let mut pack = generate();
-    check(&mut pack);
-    println!("Pack check, best round of each; proved/Rust under 1.00 means that proved is faster");
+    let mut told = vec![0; 3 * RECORDS];
+    check(&mut pack, &mut told);
+    println!("Pack scan, best round of each; proved/Rust under 1.00 means that proved is faster");
     println!("   bytes   records   proved ms   Rust ms   proved/Rust   proved GB/s   Rust GB/s");
     let (p, r) = timing::compare(
         || {
-            black_box(proved(black_box(&pack)));
+            let _ = black_box(proved(black_box(&pack), &mut told));
         },
         || {
             let _ = black_box(rust(black_box(&pack)));
