@@ -2,3 +2,4 @@ mod Bounds
 mod Filling
 mod Scanning
 mod Telling
+mod Writes

@@ -1,3 +1,4 @@
 pub mod Words
 pub mod Scan
 pub mod Values
+pub mod Write
