@@ -3,3 +3,5 @@ mod Filling
 mod Scanning
 mod Telling
 mod Writes
+mod Standing
+mod Recording

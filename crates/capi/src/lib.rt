@@ -1,4 +1,5 @@
 // The functions that C, Rust and Python link.
+mod record;
 mod scan;
 mod values;
 mod words;
