@@ -3,3 +3,6 @@ mod Filling
 mod Scanning
 mod Telling
 mod Looking
+mod Writes
+mod Standing
+mod Recording

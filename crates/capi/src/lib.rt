@@ -1,8 +1,10 @@
 // The functions that C, Rust and Python link.
 mod current;
+mod record;
 mod scan;
 mod values;
 mod words;
+mod write;
 
 ghost use mathlib.Core.Path.{_≡_};
 ghost use Rattle.xxh64.specs.Xxh64.{xxh64};
