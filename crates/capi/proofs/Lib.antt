@@ -3,3 +3,4 @@ mod Filling
 mod Scanning
 mod Telling
 mod Looking
+mod Writes

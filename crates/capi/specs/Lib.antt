@@ -2,3 +2,4 @@ pub mod Words
 pub mod Scan
 pub mod Values
 pub mod Current
+pub mod Write

@@ -3,6 +3,7 @@ mod current;
 mod scan;
 mod values;
 mod words;
+mod write;
 
 ghost use mathlib.Core.Path.{_≡_};
 ghost use Rattle.xxh64.specs.Xxh64.{xxh64};
