@@ -4,3 +4,5 @@ mod Scanning
 mod Telling
 mod Looking
 mod Writes
+mod Standing
+mod Recording

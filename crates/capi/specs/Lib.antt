@@ -3,3 +3,4 @@ pub mod Scan
 pub mod Values
 pub mod Current
 pub mod Write
+pub mod Record

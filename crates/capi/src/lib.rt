@@ -1,5 +1,6 @@
 // The functions that C, Rust and Python link.
 mod current;
+mod record;
 mod scan;
 mod values;
 mod words;

@@ -8,7 +8,7 @@ use crate::words;
 use value::Reading;
 use value::Told;
 
-fn told_words(t: Told) -> [u64; 10]
+pub(crate) fn told_words(t: Told) -> [u64; 10]
     ensures { λ r. ⌜ r ≡ toldWords t ⌝ }
 {
     let primary = t.primary;
