@@ -1,6 +1,6 @@
 -- The answer of `vof_record`, and lent memory at exit, from what stands at the place.
-use Prim.Native.Nat.{ℕ, _+_, _≤_, _<_, _^_}
-use mathlib.Core.Bool.{Bool, true, false, cond}
+use Prim.Native.Nat.{ℕ, _+_, _≤_, _<_}
+use mathlib.Core.Bool.{Bool, true, false}
 use mathlib.Core.List.{List, [], _∷_}
 use mathlib.Core.Logic.{⊎-elim}
 use mathlib.Core.Option.{some}
@@ -22,10 +22,8 @@ use Rattle.identifier.specs.declared.Written.{Written}
 use Rattle.identifier.specs.declared.Written.the-variants.{Bytes, Inadmissible, Short}
 use Rattle.identifier.proofs.Written.{the-type}
 use Rattle.value.specs.ReadingLaws.{within-front}
-use Rattle.value.specs.declared.Told.{Told}
-use Rattle.primary.specs.Answers.{textIn, textsIn, Inside}
-use Rattle.primary.specs.declared.Text.{Text}
-use Rattle.records.specs.Record.{Kind, versionDelete, Record, primaryIn, AtPlace, there, refusedAt, alone, recordAt}
+use Rattle.primary.specs.Answers.{textIn, textsIn}
+use Rattle.records.specs.Record.{versionDelete, Record, primaryIn, there, refusedAt, alone, recordAt}
 use Rattle.records.specs.Answers.{kindIn, recordIn, placeOf, KindInside, ContentsInside, PlaceInside}
 use Rattle.records.specs.declared.Kind as declared-kind
 use Rattle.records.specs.declared.Kind.the-variants.{Block, Version, VersionDelete}
@@ -33,7 +31,7 @@ use Rattle.records.specs.declared.Record as declared-record
 use Rattle.records.specs.declared.AtPlace as declared-place
 use Rattle.records.specs.declared.AtPlace.the-variants as place-answer
 use Rattle.capi.specs.Words.{answer}
-use Rattle.capi.specs.Record.{outcome, kindWords, recordWords, TextAt, DeleteIdAt, RecordHolds, startIn, kindWordsFrom, PlacesFit, IsRecord}
+use Rattle.capi.specs.Record.{outcome, kindWords, recordWords, TextAt, RecordHolds, startIn, kindWordsFrom, PlacesFit, IsRecord}
 use Rattle.capi.specs.declared.record.KindWords.{KindWords}
 use Rattle.capi.proofs.Standing.{StandsAt, record-stands}
 
@@ -186,18 +184,20 @@ module _ (pack : List ℕ) (at len : ℕ) (r : declared-record.Record) (h : IsRe
   unfolding overwritten recordWords
   word-14 words k n = refl
 
-  pub told-holds : (words bytes : List ℕ) (n : ℕ) → 16 ≤ length words → (told id : List ℕ) → told ≡ overwritten words 0 (recordWords (at + 32) len (r .told) (kindWordsFrom by (r .kind)) n)
-      → TextWritten (textsIn part (r .identifier)) bytes n id → RecordHolds pack at words bytes (answer 0 0) told id
+  pub told-holds : (words bytes : List ℕ) (n : ℕ) → 16 ≤ length words → (list : List ℕ) → list ≡ recordWords (at + 32) len (r .told) (kindWordsFrom by (r .kind)) n
+      → (told id : List ℕ) → told ≡ overwritten words 0 list → TextWritten (textsIn part (r .identifier)) bytes n id → RecordHolds pack at words bytes (answer 0 0) told id
   unfolding outcome
-  told-holds words bytes n enough told id stored w =
-      let is : outcome pack at (length words) (length bytes) ≡ there value (recordIn value r) = rw (h .is, le-leb 16 (length words) enough, le-leb (length (compositeText (textsIn part (r .identifier)))) (length bytes) (w .room)) in
+  told-holds words bytes n enough list are told id put w =
+      let stored : told ≡ overwritten words 0 (recordWords (at + 32) len (r .told) (kindWordsFrom by (r .kind)) n) = put ∙ ap (overwritten words 0) are in
+      let is : outcome pack at (length words) (length bytes) ≡ there value (recordIn value r)
+      = rw (h .is, le-leb 16 (length words) enough, le-leb (length (compositeText (textsIn part (r .identifier)))) (length bytes) (w .room)) in
       let place : getD told 14 0 ≡ kindWordsFrom by (r .kind) .start = ap (λ l. getD l 14 0) stored ∙ word-14 words (kindWordsFrom by (r .kind)) n in
       let kind : kindWordsFrom by (r .kind) ≡ kindWords (kindWordsFrom by (r .kind) .start) (kindIn part (r .kind)) = kind-told (r .kind) (h .contents .kind) in
       record {
         answers = rw is;
         words-told = rw (is, value-length, place, ← w .size) (stored ∙ ap (λ k. overwritten words 0 (recordWords (at + 32) len (r .told) k n)) kind);
         text-told = rw is (w .is);
-        delete-id = rw (is, place) (record { text = λ v x u p q. by-kind v x u p q });
+        delete-id = rw (is, place) (record { text = by-kind });
       }
     where
       by-kind : (v : List ℕ) (x : Record) (u : List ℕ) → there value (recordIn value r) ≡ there v x → x .contents .kind ≡ versionDelete u

@@ -44,9 +44,9 @@ count-within room used asked w e = record { within = λ n is. written-within pac
 -- ---- the struct read from a text
 
 -- two requests that the writer answers alike, and that leave the buffer alike
-pub record SameCall (used : ℕ) (buf : List ℕ) (a b : Option Item) : Type 0 where
-  pub answer : written packLimit (length buf) used a ≡ written packLimit (length buf) used b
-  pub buffer : bufferAfter packLimit used a buf ≡ bufferAfter packLimit used b buf
+record SameCall (used : ℕ) (buf : List ℕ) (a b : Option Item) : Type 0 where
+  answer : written packLimit (length buf) used a ≡ written packLimit (length buf) used b
+  buffer : bufferAfter packLimit used a buf ≡ bufferAfter packLimit used b buf
 
 not-admitted : (used : ℕ) (buf : List ℕ) (item : Item) → admitted item ≡ false → SameCall used buf (some item) none
 unfolding written bufferAfter
@@ -69,10 +69,15 @@ zeros-invalid = by (isValid nothing) refl
 
 -- it names what the text reads as; where the text does not read, it names what no rule admits
 module _ (item : Identity → Item) (refuses : (i : Identity) → isValid i ≡ false → admitted (item i) ≡ false) (used : ℕ) (buf t : List ℕ) where
-  pub by-text : (r : Reading) → r ≡ answered (identityIn t) → SameCall used buf (ofIdentity item (named (r .id))) (ofIdentity item (identityIn t))
+  same-call : (x : Option Identity) → identityIn t ≡ x → SameCall used buf (ofIdentity item (named (answered x .id))) (ofIdentity item x)
   unfolding answered
-  by-text r read = rw read (by (identityIn t) refl)
-    where
-      by : (x : Option Identity) → identityIn t ≡ x → SameCall used buf (ofIdentity item (named (answered x .id))) (ofIdentity item x)
-      by (some i) e = rw (named-held i (sizes i (reads-text t i e .0))) (record { answer = refl; buffer = refl })
-      by none e = rw zeros-named (not-admitted used buf (item nothing) (refuses nothing zeros-invalid))
+  same-call (some i) e = rw (named-held i (sizes i (reads-text t i e .0))) (record { answer = refl; buffer = refl })
+  same-call none e = rw zeros-named (not-admitted used buf (item nothing) (refuses nothing zeros-invalid))
+
+  -- what the writer did is what was asked for by the text
+  pub by-text : (r : Reading) → r ≡ answered (identityIn t) → (w : Written) → answerOf w ≡ written packLimit (length buf) used (ofIdentity item (named (r .id)))
+      → (after : List ℕ) → after ≡ bufferAfter packLimit used (ofIdentity item (named (r .id))) buf
+      → (answerOf w ≡ written packLimit (length buf) used (ofIdentity item (identityIn t))) × (after ≡ bufferAfter packLimit used (ofIdentity item (identityIn t)) buf)
+  by-text r read w told after holds =
+      let same = same-call (identityIn t) refl in
+      ((rw read at told) ∙ same .answer, (rw read at holds) ∙ same .buffer)

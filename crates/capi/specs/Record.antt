@@ -10,7 +10,6 @@ use Rattle.pack.specs.Reading.{packLimit}
 use Rattle.value.specs.declared.Part.{Part}
 use Rattle.value.specs.declared.Told.{Told}
 use Rattle.identifier.specs.Composite.{compositeText}
-use Rattle.primary.specs.declared.Text.{Text}
 use Rattle.records.specs.Record.{blockTag, versionTag, versionDeleteTag, Kind, block, version, versionDelete, Record, primaryIn, AtPlace, there, refusedAt, alone, recordAt}
 use Rattle.records.specs.Answers.{recordIn, ContentsInside}
 use Rattle.records.specs.declared.Kind as declared-kind

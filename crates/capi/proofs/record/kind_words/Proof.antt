@@ -1,5 +1,5 @@
 -- `capi::record::kind_words` meets its contract, by the kind.
-use mathlib.Core.Path.{sym, ap, _∙_}
+use mathlib.Core.Path.{sym, ap}
 use native.Mathlib.Omega.{arith}
 use borrow.Author.Needs.{needs}
 use Rattle.capi.specs.Record.{kindWordsFrom}

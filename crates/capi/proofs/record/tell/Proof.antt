@@ -1,8 +1,6 @@
 -- `capi::record::tell` meets its contract: what was read is told where there is room for all of it.
-use mathlib.Core.Path.{ap, _∙_}
 use native.Mathlib.Omega.{arith}
 use borrow.Author.Needs.{needs}
-use Rattle.endian.specs.Places.{overwritten}
 use Rattle.capi.proofs.Recording.{few-words, few-bytes, text-written, text-short, rules, places-fit, told-holds}
 use Rattle.capi.proofs.record.tell.Statement.{statement}
 use Rattle.capi.proofs.record.tell.Tie as tie
@@ -68,7 +66,7 @@ returns-3 c =
     let wrote = c .before .before .before .before .before .before .before .before .before .before .before .before .write-text in
     let holds = rw (c .before .before .before .before .before .before .before .before .before .before .before .before .before .before .text2 .ensures, c .before .before .before .before .before .before .before .before .before .before .before .before .before .before .before .text .ensures) at (wrote .ensures) in
     let text = text-written _ (start .args .id .now) (rules _ _ _ _ (start .pre)) (wrote .result) (holds .0) (wrote .last .0) (holds .1) _ (c .before .before .before .before .before .before .before .before .n .given .1) in
-    rw (c .answer3 .ensures) (told-holds _ _ _ _ (start .pre) (start .args .told .now) (start .args .id .now) _ (omega (arith, c .before .before .before .before .before .before .before .before .before .before .before .before .before .before .before .before .before .if1 .left)) _ _ (c .before .before .before .store .ensures ∙ ap (overwritten _ 0) (c .before .before .before .before .before .record-words .ensures)) text)
+    rw (c .answer3 .ensures) (told-holds _ _ _ _ (start .pre) (start .args .told .now) (start .args .id .now) _ (omega (arith, c .before .before .before .before .before .before .before .before .before .before .before .before .before .before .before .before .before .if1 .left)) _ (c .before .before .before .before .before .record-words .ensures) _ _ (c .before .before .before .store .ensures) text)
 
 pub tell-spec : {M : Type 1} → statement M
 tell-spec =
