@@ -22,8 +22,9 @@ use Rattle.identifier.specs.declared.Written.{Written}
 use Rattle.identifier.specs.declared.Written.the-variants.{Bytes, Inadmissible, Short}
 use Rattle.identifier.proofs.Written.{the-type}
 use Rattle.value.specs.ReadingLaws.{within-front}
-use Rattle.primary.specs.Answers.{textIn, textsIn}
-use Rattle.records.specs.Record.{versionDelete, Record, primaryIn, there, refusedAt, alone, recordAt}
+use Rattle.primary.specs.Answers.{textIn, textsIn, Inside}
+use Rattle.primary.specs.declared.Text.{Text}
+use Rattle.records.specs.Record.{Kind, block, version, versionDelete, Record, primaryIn, there, refusedAt, alone, recordAt}
 use Rattle.records.specs.Answers.{kindIn, recordIn, placeOf, KindInside, ContentsInside, PlaceInside}
 use Rattle.records.specs.declared.Kind as declared-kind
 use Rattle.records.specs.declared.Kind.the-variants.{Block, Version, VersionDelete}
@@ -31,7 +32,7 @@ use Rattle.records.specs.declared.Record as declared-record
 use Rattle.records.specs.declared.AtPlace as declared-place
 use Rattle.records.specs.declared.AtPlace.the-variants as place-answer
 use Rattle.capi.specs.Words.{answer}
-use Rattle.capi.specs.Record.{outcome, kindWords, recordWords, TextAt, RecordHolds, startIn, kindWordsFrom, PlacesFit, IsRecord}
+use Rattle.capi.specs.Record.{outcome, kindWords, recordWords, TextAt, RecordHolds, startIn, PlacesFit, IsRecord}
 use Rattle.capi.specs.declared.record.KindWords.{KindWords}
 use Rattle.capi.proofs.Standing.{StandsAt, record-stands}
 
@@ -115,6 +116,9 @@ is-record pack at a told inside r start len is =
       contents = subst (λ x. ContentsInside (primaryIn x (r .told)) (r .identifier) (r .kind)) v (inside .contents r start len is);
     }
 
+pub text-length : (s : List ℕ) (t : Text) → Inside s t → length (textIn s t) ≡ t .len
+text-length s t i = length-take-le (t .len) (drop (t .start) s) (omega (arith, i .end, length-drop (t .start) s))
+
 part-of-part : (s : List ℕ) (at n : ℕ) → at + n ≤ length s → (start len : ℕ) → start + len ≤ n → take len (drop start (take n (drop at s))) ≡ take len (drop (at + start) s)
 part-of-part s at n within start len h = within-front start len n (drop at s) h (omega (arith, length-drop at s)) ∙ ap (take len) (drop-drop start at s)
 
@@ -160,48 +164,48 @@ module _ (pack : List ℕ) (at len : ℕ) (r : declared-record.Record) (h : IsRe
 
   -- ---- the words
 
-  kind-told : (k : declared-kind.Kind) → KindInside part k → kindWordsFrom by k ≡ kindWords (kindWordsFrom by k .start) (kindIn part k)
-  kind-told Block i = refl
-  kind-told (Version deleted) i = refl
-  kind-told (VersionDelete t) i =
-      let l : length (textIn part t) ≡ t .len = length-take-le (t .len) (drop (t .start) part) (omega (arith, i .delete-id t refl .end, length-drop (t .start) part)) in
-      rw l
+  place-told : (place : ℕ) (k : Kind) → kindWords (kindWords place k .start) k ≡ kindWords place k
+  place-told place block = refl
+  place-told place (version deleted) = refl
+  place-told place (versionDelete id) = refl
 
   part-is : part ≡ take (r .told .primary .len) (drop by pack)
   part-is = part-of-part pack (at + 32) len (h .inside) (r .told .primary .start) (r .told .primary .len) primary-inside
 
-  delete-text : (k : declared-kind.Kind) → KindInside part k → (id : List ℕ) → kindIn part k ≡ versionDelete id → TextAt pack id by (kindWordsFrom by k .start) (by + r .told .primary .len)
+  delete-text : (k : declared-kind.Kind) → KindInside part k → (id : List ℕ) → kindIn part k ≡ versionDelete id → TextAt pack id by (kindWords (by + startIn k) (kindIn part k) .start) (by + r .told .primary .len)
   delete-text Block i id q = absurd-numbers (cc)
   delete-text (Version deleted) i id q = absurd-numbers (cc)
   delete-text (VersionDelete t) i id q =
       let e : textIn part t ≡ id = cc in
       let within : t .start + t .len ≤ r .told .primary .len = omega (arith, i .delete-id t refl .end, part-length) in
-      let l : length (textIn part t) ≡ t .len = length-take-le (t .len) (drop (t .start) part) (omega (arith, part-length, length-drop (t .start) part)) in
+      let l = text-length part t (i .delete-id t refl) in
       let there : textIn part t ≡ take (t .len) (drop (by + t .start) pack) = ap (λ p. take (t .len) (drop (t .start) p)) part-is ∙ part-of-part pack by (r .told .primary .len) (omega (arith, primary-inside, h .inside)) (t .start) (t .len) within in
       subst (λ u. TextAt pack u by (by + t .start) (by + r .told .primary .len)) e (record { after = omega arith; inside = omega arith; is = rw l (sym there) })
+
+  abbrev kind-words : KindWords
+  kind-words = kindWords (by + startIn (r .kind)) (kindIn part (r .kind))
 
   word-14 : (words : List ℕ) (k : KindWords) (n : ℕ) → getD (overwritten words 0 (recordWords (at + 32) len (r .told) k n)) 14 0 ≡ k .start
   unfolding overwritten recordWords
   word-14 words k n = refl
 
-  pub told-holds : (words bytes : List ℕ) (n : ℕ) → 16 ≤ length words → (list : List ℕ) → list ≡ recordWords (at + 32) len (r .told) (kindWordsFrom by (r .kind)) n
+  pub told-holds : (words bytes : List ℕ) (n : ℕ) → 16 ≤ length words → (list : List ℕ) → list ≡ recordWords (at + 32) len (r .told) kind-words n
       → (told id : List ℕ) → told ≡ overwritten words 0 list → TextWritten (textsIn part (r .identifier)) bytes n id → RecordHolds pack at words bytes (answer 0 0) told id
   unfolding outcome
   told-holds words bytes n enough list are told id put w =
-      let stored : told ≡ overwritten words 0 (recordWords (at + 32) len (r .told) (kindWordsFrom by (r .kind)) n) = put ∙ ap (overwritten words 0) are in
+      let stored : told ≡ overwritten words 0 (recordWords (at + 32) len (r .told) kind-words n) = put ∙ ap (overwritten words 0) are in
       let is : outcome pack at (length words) (length bytes) ≡ there value (recordIn value r)
       = rw (h .is, le-leb 16 (length words) enough, le-leb (length (compositeText (textsIn part (r .identifier)))) (length bytes) (w .room)) in
-      let place : getD told 14 0 ≡ kindWordsFrom by (r .kind) .start = ap (λ l. getD l 14 0) stored ∙ word-14 words (kindWordsFrom by (r .kind)) n in
-      let kind : kindWordsFrom by (r .kind) ≡ kindWords (kindWordsFrom by (r .kind) .start) (kindIn part (r .kind)) = kind-told (r .kind) (h .contents .kind) in
+      let place : getD told 14 0 ≡ kind-words .start = ap (λ l. getD l 14 0) stored ∙ word-14 words kind-words n in
       record {
         answers = rw is;
-        words-told = rw (is, value-length, place, ← w .size) (stored ∙ ap (λ k. overwritten words 0 (recordWords (at + 32) len (r .told) k n)) kind);
+        words-told = rw (is, value-length, place, ← w .size) (stored ∙ ap (λ k. overwritten words 0 (recordWords (at + 32) len (r .told) k n)) (sym (place-told (by + startIn (r .kind)) (kindIn part (r .kind)))));
         text-told = rw is (w .is);
         delete-id = rw (is, place) (record { text = by-kind });
       }
     where
       by-kind : (v : List ℕ) (x : Record) (u : List ℕ) → there value (recordIn value r) ≡ there v x → x .contents .kind ≡ versionDelete u
-          → TextAt pack u (at + 32 + x .told .primary .start) (kindWordsFrom by (r .kind) .start) (at + 32 + x .told .primary .start + x .told .primary .len)
+          → TextAt pack u (at + 32 + x .told .primary .start) (kind-words .start) (at + 32 + x .told .primary .start + x .told .primary .len)
       by-kind v x u p q =
           let same : recordIn value r ≡ x = cc in
           rw (← same) (delete-text (r .kind) (h .contents .kind) u (ap (λ (y : Record). y .contents .kind) same ∙ q))

@@ -95,12 +95,6 @@ startIn kind-answer.Block = 0
 startIn (kind-answer.Version deleted) = 0
 startIn (kind-answer.VersionDelete id) = id .start
 
--- words for a kind whose delete identifier is told in a primary part from a place of the pack on
-abbrev pub kindWordsFrom : ℕ → declared-kind.Kind → KindWords
-kindWordsFrom by kind-answer.Block = record { tag = blockTag; deleted = 0; start = 0; len = 0 }
-kindWordsFrom by (kind-answer.Version deleted) = record { tag = versionTag; deleted = flag deleted; start = 0; len = 0 }
-kindWordsFrom by (kind-answer.VersionDelete id) = record { tag = versionDeleteTag; deleted = 0; start = by + id .start; len = id .len }
-
 -- the places that are told are words
 pub record PlacesFit (start : ℕ) (r : declared-record.Record) : Type 0 where
   pub primary : start + r .told .primary .start < 2 ^ 64

@@ -1,10 +1,12 @@
 // One record at a place of a pack: sixteen words, and the composite text of its identifier.
 ghost use mathlib.Core.Path.{_≡_};
 ghost use mathlib.Core.Option.{some};
-ghost use Prim.Native.Nat.{_+_, _<_, _^_};
+ghost use mathlib.Core.List.{List};
+ghost use Prim.Native.Nat.{ℕ, _+_, _<_, _^_};
 ghost use Rattle.identifier.specs.Writing.{outcomeOf, outcome, left};
 ghost use Rattle.primary.specs.Answers.{textsIn};
-ghost use Rattle.capi.specs.Record.{RecordHolds, partFrom, toldFrom, recordWords, startIn, kindWordsFrom, PlacesFit, IsRecord};
+ghost use Rattle.records.specs.Answers.{kindIn, KindInside};
+ghost use Rattle.capi.specs.Record.{RecordHolds, partFrom, toldFrom, kindWords, recordWords, startIn, PlacesFit, IsRecord};
 use crate::values;
 use crate::words;
 use identifier::Written;
@@ -60,7 +62,7 @@ struct KindWords {
 // Of a record whose primary part starts at a place of the pack.
 fn kind_words(by: usize, kind: Kind) -> KindWords
     requires { ⌜ by + startIn kind < 2 ^ 64 ⌝ }
-    ensures { λ r. ⌜ r ≡ kindWordsFrom by kind ⌝ }
+    ensures { λ r. ⌜ ((part : List ℕ) → KindInside part kind → r ≡ kindWords (by + startIn kind) (kindIn part kind)) ⌝ }
 {
     match kind {
         Kind::Block => KindWords {
@@ -88,7 +90,7 @@ fn kind_words(by: usize, kind: Kind) -> KindWords
 // so many bytes.
 fn record_words(start: usize, len: usize, r: Record, text: usize) -> [u64; 16]
     requires { ⌜ PlacesFit start r ⌝ }
-    ensures { λ x. ⌜ x ≡ recordWords start len (r .told) (kindWordsFrom (start + r .told .primary .start) (r .kind)) text ⌝ }
+    ensures { λ x. ⌜ ((part : List ℕ) → KindInside part (r .kind) → x ≡ recordWords start len (r .told) (kindWords (start + r .told .primary .start + startIn (r .kind)) (kindIn part (r .kind))) text) ⌝ }
 {
     let t = told_from(start, r.told);
     let parts = values::told_words(t);

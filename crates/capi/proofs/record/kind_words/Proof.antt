@@ -1,8 +1,7 @@
 -- `capi::record::kind_words` meets its contract, by the kind.
-use mathlib.Core.Path.{sym, ap}
 use native.Mathlib.Omega.{arith}
 use borrow.Author.Needs.{needs}
-use Rattle.capi.specs.Record.{kindWordsFrom}
+use Rattle.capi.proofs.Recording.{text-length}
 use Rattle.capi.proofs.record.kind_words.Statement.{statement}
 use Rattle.capi.proofs.record.kind_words.Tie as tie
 
@@ -31,13 +30,15 @@ add-t10 : tie.Need-add-t10
 add-t10 c = omega (arith, rw (c .before .before .kind2 .given .1) at (c .before .before .before .before .pre))
 
 returns : tie.Need-returns
-returns c = ap (kindWordsFrom (c .before .before .args .by)) (sym (c .enum-told .given .1))
+returns c = λ part i. rw (c .enum-told .given .1)
 
 returns-2 : tie.Need-returns-2
-returns-2 c = rw (c .flag .ensures) (ap (kindWordsFrom (c .before .before .before .before .args .by)) (sym (c .before .before .kind .given .1)))
+returns-2 c = λ part i. rw (c .flag .ensures, c .before .before .kind .given .1)
 
 returns-3 : tie.Need-returns-3
-returns-3 c = ap (kindWordsFrom (c .before .before .before .before .args .by)) (sym (c .before .before .kind2 .given .1))
+returns-3 c = λ part i.
+    let is = c .before .before .kind2 .given .1 in
+    rw (is, text-length part _ (i .delete-id _ is))
 
 pub kind-words-spec : {M : Type 1} → statement M
 kind-words-spec =

@@ -42,7 +42,7 @@ array-read-t38 c = search needs
 
 returns : tie.Need-returns
 unfolding recordWords
-returns c = rw (c .kind-words .ensures, c .before .told-words .ensures, c .before .before .told-from .ensures)
+returns c = λ part i. rw (c .kind-words .ensures part i, c .before .told-words .ensures, c .before .before .told-from .ensures)
 
 pub record-words-spec : {M : Type 1} → statement M
 record-words-spec =

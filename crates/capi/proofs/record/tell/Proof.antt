@@ -66,7 +66,7 @@ returns-3 c =
     let wrote = c .before .before .before .before .before .before .before .before .before .before .before .before .write-text in
     let holds = rw (c .before .before .before .before .before .before .before .before .before .before .before .before .before .before .text2 .ensures, c .before .before .before .before .before .before .before .before .before .before .before .before .before .before .before .text .ensures) at (wrote .ensures) in
     let text = text-written _ (start .args .id .now) (rules _ _ _ _ (start .pre)) (wrote .result) (holds .0) (wrote .last .0) (holds .1) _ (c .before .before .before .before .before .before .before .before .n .given .1) in
-    rw (c .answer3 .ensures) (told-holds _ _ _ _ (start .pre) (start .args .told .now) (start .args .id .now) _ (omega (arith, c .before .before .before .before .before .before .before .before .before .before .before .before .before .before .before .before .before .if1 .left)) _ (c .before .before .before .before .before .record-words .ensures) _ _ (c .before .before .before .store .ensures) text)
+    rw (c .answer3 .ensures) (told-holds _ _ _ _ (start .pre) (start .args .told .now) (start .args .id .now) _ (omega (arith, c .before .before .before .before .before .before .before .before .before .before .before .before .before .before .before .before .before .if1 .left)) _ (c .before .before .before .before .before .record-words .ensures _ (start .pre .contents .kind)) _ _ (c .before .before .before .store .ensures) text)
 
 pub tell-spec : {M : Type 1} → statement M
 tell-spec =
