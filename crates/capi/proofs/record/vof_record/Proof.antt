@@ -1,5 +1,6 @@
 -- `capi::record::vof_record` meets its contract: each arm is how the record at the place is told.
 use mathlib.Core.Path.{_≡_, sym, ap, _∙_}
+use native.Mathlib.Omega.{arith}
 use borrow.Author.Needs.{needs}
 use Rattle.pack.specs.Reading.{packLimit}
 use Rattle.tlv.specs.Found.{numberOf}
@@ -45,7 +46,7 @@ faulty : (c : tie.After-known-told2) → recordAt packLimit (c .before .before .
 faulty c = sym (c .before .before .before .read-at .ensures .0) ∙ ap (placeOf (c .before .before .before .before .before .before .before .args .pack .now)) (c .before .f .given .1)
 
 answer-requires-3 : tie.Need-answer-requires-3
-answer-requires-3 c κs = place-within packLimit _ _ _ _ (faulty (c .before))
+answer-requires-3 c κs = omega (arith, place-within packLimit _ _ _ _ (faulty (c .before)))
 
 enum-known-f-2 : tie.Need-enum-known-f-2
 enum-known-f-2 c = search needs
