@@ -11,7 +11,7 @@ use denote.Enum.Declared.{tagOf}
 use types.Run.{OneOf}
 use lib.Dec.{leb}
 use lib.ListN.{length, getD, take, drop, length-drop}
-use lib.Seq.{drop-drop, length-take-le}
+use lib.Seq.{length-take-le}
 use Rattle.endian.specs.Places.{overwritten}
 use Rattle.pack.specs.Reading.{packLimit}
 use Rattle.msgpack.specs.HeadLaws.{absurd-numbers}
@@ -21,7 +21,7 @@ use Rattle.identifier.specs.Writing.{wrote, refused, outcomeOf, outcome as writ
 use Rattle.identifier.specs.declared.Written.{Written}
 use Rattle.identifier.specs.declared.Written.the-variants.{Bytes, Inadmissible, Short}
 use Rattle.identifier.proofs.Written.{the-type}
-use Rattle.value.specs.ReadingLaws.{within-front}
+use Rattle.value.specs.ReadingLaws.{part-of-part}
 use Rattle.primary.specs.Answers.{textIn, textsIn, Inside}
 use Rattle.primary.specs.declared.Text.{Text}
 use Rattle.records.specs.Record.{Kind, block, version, versionDelete, Record, primaryIn, there, refusedAt, alone, recordAt}
@@ -118,9 +118,6 @@ is-record pack at a told inside r start len is =
 
 pub text-length : (s : List ℕ) (t : Text) → Inside s t → length (textIn s t) ≡ t .len
 text-length s t i = length-take-le (t .len) (drop (t .start) s) (omega (arith, i .end, length-drop (t .start) s))
-
-part-of-part : (s : List ℕ) (at n : ℕ) → at + n ≤ length s → (start len : ℕ) → start + len ≤ n → take len (drop start (take n (drop at s))) ≡ take len (drop (at + start) s)
-part-of-part s at n within start len h = within-front start len n (drop at s) h (omega (arith, length-drop at s)) ∙ ap (take len) (drop-drop start at s)
 
 module _ (pack : List ℕ) (at len : ℕ) (r : declared-record.Record) (h : IsRecord pack at len r) where
   abbrev value : List ℕ

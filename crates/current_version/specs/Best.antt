@@ -1,13 +1,13 @@
 -- The best version of a list: by parts, by what the test says of the versions there, and where it stands.
 use Prim.Native.Nat.{ℕ}
-use mathlib.Core.Bool.{Bool, true, false, cond, true≢false}
+use mathlib.Core.Bool.{Bool, true, false, cond}
 use mathlib.Core.List.{List, [], _∷_, _++_, List·Memᴰ, List·Memᴰ·head, List·Memᴰ·tail, List·Memᴰ·not-nil, List·Memᴰ·cases-cons, List·Memᴰ·append-cases, Memᴰ·append-right}
 use mathlib.Core.Logic.{_⊎_, inl, inr, ⊎-elim}
 use mathlib.Core.Option.{Option, none, some}
 use mathlib.Core.Path.{_≡_, refl, sym, ap, subst, _∙_}
 use Rattle.msgpack.specs.HeadLaws.{absurd-numbers}
-use Rattle.identifier.specs.Texts.{less, either, clash, not-so}
-use Rattle.identifier.specs.Order.{less-asymmetric, less-irreflexive, less-transitive, less-total, not-less-transitive}
+use Rattle.identifier.specs.Texts.{less, either}
+use Rattle.identifier.specs.Order.{less-asymmetric, less-irreflexive, less-transitive, not-less-transitive}
 use Rattle.identifier.specs.Identity.{Identity}
 use Rattle.current_version.specs.Current.{Placed, Version, versionOf, filtered, better, best}
 

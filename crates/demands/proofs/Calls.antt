@@ -14,7 +14,6 @@ use Rattle.records.specs.Record.{versionDeleteTag}
 use Rattle.writer.specs.Writing as writer
 use Rattle.writer.specs.Writing.{Item, deletion, tagOf, ofIdentity, count, answerOf, written, bufferAfter}
 use Rattle.writer.specs.declared.Written.{Written}
-use Rattle.writer.specs.declared.Written.the-variants.{Count}
 use Rattle.writer_model.specs.Refusals.{written-exactly}
 use Rattle.current_version.specs.Current.{Answer, isName, lookup}
 use Rattle.current_version.specs.Packs.{ReadablePack}

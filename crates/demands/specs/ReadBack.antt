@@ -8,7 +8,6 @@ use native.Mathlib.Omega.{arith}
 use lib.ListN.{length, take, drop, length-append}
 use lib.Seq.{take-at, drop-at}
 use Rattle.endian.specs.Places.{overwritten}
-use Rattle.tlv.specs.Layout as tlv
 use Rattle.tlv.specs.Layout.{Fits, layouts, length-layout}
 use Rattle.pack.specs.declared.Entry.{Entry}
 use Rattle.pack.specs.Reading.{whole, reading}
@@ -16,7 +15,6 @@ use Rattle.pack.specs.Acceptance.{AllFit, entryOf, entriesOf, layouts-accepted}
 use Rattle.msgpack.specs.HeadLaws.{absurd-numbers}
 use Rattle.primary.specs.Parts.{Answer, refused, read}
 use Rattle.primary.specs.Parts as primary
-use Rattle.records.specs.Record as records
 use Rattle.records.specs.Record.{Record, there, readRecord, atPlace, recordAt, isRead, ofVersion, ofVersionDelete}
 use Rattle.records.specs.Laws.{tag-and-value}
 use Rattle.records_model.specs.Record.{RecordHeld, recordIn, withHeld, is-held}

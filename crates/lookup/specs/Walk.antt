@@ -1,11 +1,9 @@
 -- How code walks a checked pack: the records from a place on, one after the other.
 use Prim.Native.Nat.{ℕ, _+_, _≤_, _<_}
-use mathlib.Core.Bool.{Bool, true, false, cond}
+use mathlib.Core.Bool.{true}
 use mathlib.Core.List.{List, [], _∷_, map}
 use mathlib.Core.Path.{_≡_, refl, sym, ap, _∙_}
 use native.Mathlib.Omega.{arith}
-use borrow.Author.Tests.{le-ltb, ltb-false}
-use lib.Dec.{ltb}
 use lib.ListN.{length, drop, length-drop}
 use Rattle.tlv.specs.Found.{Found, end, found, fault, step, step-none, step-end}
 use Rattle.tlv.specs.Stands.{step-stands}

@@ -8,7 +8,7 @@ use native.Mathlib.Omega.{arith}
 use borrow.Author.Tests.{eq-eqb, eqb-true}
 use lib.Dec.{leb, eqb}
 use lib.ListN.{length, take, drop, length-drop, take-append-drop}
-use lib.Seq.{take-all, length-take-le, take-append-le, drop-append-le}
+use lib.Seq.{take-all, length-take-le, take-append-le, drop-append-le, drop-drop}
 use Rattle.msgpack.specs.Formats.{binaryKind}
 use Rattle.msgpack.specs.Items.{Passage, whole, cut, tooDeep, passOver, depthAllowed}
 use Rattle.msgpack.specs.Readers.{Counted, readArray, readBinary}
@@ -161,13 +161,17 @@ parts-inside limit s t e =
 
 -- ---- what the parts hold
 
-pub within-front : (a b n : ℕ) (s : List ℕ) → a + b ≤ n → n ≤ length s → take b (drop a (take n s)) ≡ take b (drop a s)
+within-front : (a b n : ℕ) (s : List ℕ) → a + b ≤ n → n ≤ length s → take b (drop a (take n s)) ≡ take b (drop a s)
 within-front a b n s h w =
     let l : length (take n s) ≡ n = length-take-le n s w in
     let p : a ≤ length (take n s) = omega arith in
     let q : b ≤ length (drop a (take n s)) = omega (arith, length-drop a (take n s)) in
     let whole : take n s ++ drop n s ≡ s = take-append-drop n s in
     sym (take-append-le b (drop a (take n s)) (drop n s) q) ∙ ap (take b) (sym (drop-append-le a (take n s) (drop n s) p) ∙ ap (drop a) whole)
+
+-- a part of a part
+pub part-of-part : (s : List ℕ) (at n : ℕ) → at + n ≤ length s → (start len : ℕ) → start + len ≤ n → take len (drop start (take n (drop at s))) ≡ take len (drop (at + start) s)
+part-of-part s at n within start len h = within-front start len n (drop at s) h (omega (arith, length-drop at s)) ∙ ap (take len) (drop-drop start at s)
 
 module _ (limit : ℕ) (s : List ℕ) (t : Told) (e : reading limit s ≡ told t) where
   -- the primary part holds the bytes under `e` of the header
