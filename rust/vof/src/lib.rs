@@ -1,0 +1,259 @@
+//! LTFS-VOF pack records, read and written by code that is proved to keep its contract.
+//!
+//! Every input has an answer: a result, or a [`Refusal`] whose number docs/REFUSALS.md explains. Nothing
+//! is copied but identifiers: parts of a record are handed back as parts of the pack. A refusal leaves
+//! lent memory as it was, and what lies behind a result keeps its content.
+//!
+//! ```
+//! let mut buffer = [0; 256];
+//! let name = b"00000000000000000000000001:herd/k";
+//! let used = vof::write_block(&mut buffer, 0, name, b"abc")?;
+//! let pack = &buffer[..used];
+//!
+//! let mut entries = [vof::Entry::default(); 8];
+//! assert_eq!(vof::scan(pack, &mut entries)?, 1);
+//! assert_eq!(entries[0].tag, vof::BLOCK);
+//!
+//! let mut identifier = [0; vof::IDENTIFIER_LIMIT];
+//! let record = vof::record(pack, entries[0].start as usize, &mut identifier)?;
+//! assert_eq!(record.identifier, name);
+//! assert_eq!(record.value.secondary.unwrap().bytes, b"abc");
+//! # Ok::<(), vof::Refusal>(())
+//! ```
+
+pub mod raw;
+
+/// The tag `bk`.
+pub const BLOCK: u64 = 0x626B;
+/// The tag `vr`.
+pub const VERSION: u64 = 0x7672;
+/// The tag `vd`.
+pub const VERSION_DELETE: u64 = 0x7664;
+/// The longest composite text, `ULID:bucket/object`.
+pub const IDENTIFIER_LIMIT: usize = 1115;
+/// The bytes of a record before its value.
+pub const HEADER: usize = 32;
+/// The characters of a ULID.
+pub const ULID: usize = 26;
+
+/// Why there is no result.
+#[derive(Clone, Copy, Debug, PartialEq, Eq)]
+pub struct Refusal {
+    /// The number in docs/REFUSALS.md, 1 to 20.
+    pub number: u8,
+    /// The start of the record at fault, where the refusal is about a place of the pack.
+    pub place: Option<u64>,
+}
+
+impl std::fmt::Display for Refusal {
+    fn fmt(&self, f: &mut std::fmt::Formatter) -> std::fmt::Result {
+        write!(f, "refused {}", self.number)?;
+        match self.place {
+            Some(place) => write!(f, " at {place}"),
+            None => Ok(()),
+        }
+    }
+}
+
+impl std::error::Error for Refusal {}
+
+/// The word of an answer, or the refusal; refusals up to `placed` have a place.
+fn word(answer: u64, placed: u8) -> Result<u64, Refusal> {
+    match (answer % 256) as u8 {
+        0 => Ok(answer / 256),
+        number => Err(Refusal {
+            number,
+            place: (number <= placed).then_some(answer / 256),
+        }),
+    }
+}
+
+/// One record of a pack, as [`scan`] tells it.
+#[derive(Clone, Copy, Debug, Default, PartialEq, Eq)]
+#[repr(C)]
+pub struct Entry {
+    /// Where the record starts in the pack.
+    pub start: u64,
+    /// Its tag, two bytes as a big-endian number.
+    pub tag: u64,
+    /// The length of its value; the record is [`HEADER`] bytes longer.
+    pub length: u64,
+}
+
+/// Part of a value.
+#[derive(Clone, Copy, Debug, PartialEq, Eq)]
+pub struct Part<'a> {
+    /// The part as it stands in the value, compressed and encrypted as it may be.
+    pub bytes: &'a [u8],
+    /// `c`, the compression's number; 0 is none.
+    pub compression: u64,
+    /// Whether `z`, the encryption's parameters, is there.
+    pub encrypted: bool,
+}
+
+/// The header of a value, read.
+#[derive(Clone, Copy, Debug, PartialEq, Eq)]
+pub struct Value<'a> {
+    /// `e`: what the record is about.
+    pub primary: Part<'a>,
+    /// What follows the header: a block's data. An empty part is not an absent one.
+    pub secondary: Option<Part<'a>>,
+    /// `v`: the version of the structure.
+    pub version: u64,
+}
+
+/// One record, read.
+#[derive(Clone, Copy, Debug, PartialEq, Eq)]
+pub struct Record<'a, 'b> {
+    /// [`BLOCK`], [`VERSION`] or [`VERSION_DELETE`].
+    pub tag: u64,
+    /// The whole value.
+    pub bytes: &'a [u8],
+    /// The value's parts.
+    pub value: Value<'a>,
+    /// Whether a version is a delete marker; false in other records.
+    pub deleted: bool,
+    /// The identifier as composite text, in the lent bytes.
+    pub identifier: &'b [u8],
+    /// A version delete's own ULID.
+    pub delete_ulid: Option<&'a [u8]>,
+}
+
+/// The current version of an object.
+#[derive(Clone, Copy, Debug, PartialEq, Eq)]
+pub struct Current<'a> {
+    /// The version's ULID.
+    pub ulid: [u8; ULID],
+    /// Where its record starts in the pack.
+    pub start: u64,
+    /// The whole value.
+    pub bytes: &'a [u8],
+    /// Whether it is a delete marker.
+    pub deleted: bool,
+}
+
+/// The XXH64 of the bytes, seed 0.
+pub fn xxh64(bytes: &[u8]) -> u64 {
+    raw::xxh64(bytes)
+}
+
+/// How many records a pack has; `entries` gets one entry for each, in order.
+///
+/// Refused with 1 to 8 and a place, or with 19 where `entries` is too short. A pack has at most one
+/// record for each [`HEADER`] of its bytes.
+pub fn scan(pack: &[u8], entries: &mut [Entry]) -> Result<usize, Refusal> {
+    // SAFETY: an entry is three numbers, laid out as in C, and any numbers are an entry.
+    let told =
+        unsafe { std::slice::from_raw_parts_mut(entries.as_mut_ptr().cast(), 3 * entries.len()) };
+    word(raw::scan(pack, told), 8).map(|count| count as usize)
+}
+
+/// The record at a place of a pack; `identifier` gets its composite text.
+///
+/// Refused with 1 to 8 and a place, with 9 to 18, with 19 where `identifier` is too short
+/// ([`IDENTIFIER_LIMIT`] always suffices), or with 20 where the place is not inside the pack.
+pub fn record<'a, 'b>(
+    pack: &'a [u8],
+    at: usize,
+    identifier: &'b mut [u8],
+) -> Result<Record<'a, 'b>, Refusal> {
+    let mut told = [0; 16];
+    word(raw::record(pack, at, &mut told, identifier), 8)?;
+    let [tag, value, length, parts @ .., deleted, identifier_length, by, by_length] = told;
+    Ok(Record {
+        tag,
+        bytes: range(pack, value, length),
+        value: read_parts(pack, parts, 0),
+        deleted: deleted == 1,
+        identifier: &identifier[..identifier_length as usize],
+        delete_ulid: (tag == VERSION_DELETE).then(|| range(pack, by, by_length)),
+    })
+}
+
+/// The parts of a value, whatever its record's tag, for whoever opens compressed or encrypted parts.
+///
+/// Refused with 9 to 12.
+pub fn value(value: &[u8]) -> Result<Value<'_>, Refusal> {
+    let mut told = [0; 10];
+    word(raw::value(value, &mut told), 0)?;
+    let [parts @ .., version] = told;
+    Ok(read_parts(value, parts, version))
+}
+
+/// The current version of an object, `None` where the pack has none.
+///
+/// Refused with 1 to 12 or 14 to 18 and a place, or with 20 where the name breaks the rules. A delete
+/// marker is handed back as such.
+pub fn current<'a>(
+    pack: &'a [u8],
+    bucket: &[u8],
+    object: &[u8],
+) -> Result<Option<Current<'a>>, Refusal> {
+    let (mut told, mut ulid) = ([0; 4], [0; ULID]);
+    word(raw::current(pack, bucket, object, &mut told, &mut ulid), 18)?;
+    let [found, start, length, deleted] = told;
+    Ok((found == 1).then(|| Current {
+        ulid,
+        start,
+        bytes: range(pack, start + HEADER as u64, length),
+        deleted: deleted == 1,
+    }))
+}
+
+/// Writes a block after the first `used` bytes of the buffer, and gives the new count of bytes.
+///
+/// The identifier is composite text. Refused with 20 where it breaks the rules or the pack would be
+/// too long, with 19 where the buffer is too short.
+pub fn write_block(
+    buffer: &mut [u8],
+    used: usize,
+    identifier: &[u8],
+    data: &[u8],
+) -> Result<usize, Refusal> {
+    written(raw::write_block(buffer, used, identifier, data))
+}
+
+/// Writes a version with this primary part, as [`write_block`] does.
+///
+/// Refused with 20 where the primary part does not read (16 to 18), too.
+pub fn write_version(buffer: &mut [u8], used: usize, primary: &[u8]) -> Result<usize, Refusal> {
+    written(raw::write_version(buffer, used, primary))
+}
+
+/// Writes a version delete with this primary part, as [`write_version`] does.
+pub fn write_delete(buffer: &mut [u8], used: usize, primary: &[u8]) -> Result<usize, Refusal> {
+    written(raw::write_delete(buffer, used, primary))
+}
+
+/// Writes a version delete that names the version `identifier`, as [`write_block`] does.
+pub fn write_delete_of(
+    buffer: &mut [u8],
+    used: usize,
+    identifier: &[u8],
+    delete_ulid: &[u8],
+) -> Result<usize, Refusal> {
+    written(raw::write_delete_of(buffer, used, identifier, delete_ulid))
+}
+
+fn written(answer: u64) -> Result<usize, Refusal> {
+    word(answer, 0).map(|count| count as usize)
+}
+
+fn range(bytes: &[u8], start: u64, length: u64) -> &[u8] {
+    &bytes[start as usize..][..length as usize]
+}
+
+/// The nine numbers that the functions tell of a value's parts.
+fn read_parts(bytes: &[u8], told: [u64; 9], version: u64) -> Value<'_> {
+    let [start, length, there, second_start, second_length, c, z, second_c, second_z] = told;
+    let part = |start, length, compression, z| Part {
+        bytes: range(bytes, start, length),
+        compression,
+        encrypted: z == 1,
+    };
+    Value {
+        primary: part(start, length, c, z),
+        secondary: (there == 1).then(|| part(second_start, second_length, second_c, second_z)),
+        version,
+    }
+}

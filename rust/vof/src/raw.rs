@@ -1,0 +1,187 @@
+//! The archive's functions as they are, with slices for pointers and lengths.
+//!
+//! Each answers `number + 256 * word`: the number of a refusal or 0, and a word that the function's
+//! comment names. Lent memory past what a comment names keeps its content; a refusal leaves all of it
+//! as it was. The functions of the crate's root are easier to use.
+
+extern "C" {
+    fn vof_xxh64(bytes: *const u8, length: usize) -> u64;
+    fn vof_scan(pack: *const u8, length: usize, told: *mut u64, told_length: usize) -> u64;
+    fn vof_record(
+        pack: *const u8,
+        length: usize,
+        at: usize,
+        told: *mut u64,
+        told_length: usize,
+        identifier: *mut u8,
+        identifier_length: usize,
+    ) -> u64;
+    fn vof_value(value: *const u8, length: usize, told: *mut u64, told_length: usize) -> u64;
+    fn vof_current(
+        pack: *const u8,
+        length: usize,
+        bucket: *const u8,
+        bucket_length: usize,
+        object: *const u8,
+        object_length: usize,
+        told: *mut u64,
+        told_length: usize,
+        ulid: *mut u8,
+        ulid_length: usize,
+    ) -> u64;
+    fn vof_write_block(
+        buffer: *mut u8,
+        length: usize,
+        used: usize,
+        identifier: *const u8,
+        identifier_length: usize,
+        data: *const u8,
+        data_length: usize,
+    ) -> u64;
+    fn vof_write_version(
+        buffer: *mut u8,
+        length: usize,
+        used: usize,
+        primary: *const u8,
+        primary_length: usize,
+    ) -> u64;
+    fn vof_write_delete(
+        buffer: *mut u8,
+        length: usize,
+        used: usize,
+        primary: *const u8,
+        primary_length: usize,
+    ) -> u64;
+    fn vof_write_delete_of(
+        buffer: *mut u8,
+        length: usize,
+        used: usize,
+        identifier: *const u8,
+        identifier_length: usize,
+        delete_ulid: *const u8,
+        delete_ulid_length: usize,
+    ) -> u64;
+}
+
+// SAFETY, of every call below: each pointer and length are those of a slice that outlives the call;
+// the functions keep no pointer, write only through the mutable ones, and take every content.
+
+/// The XXH64 of the bytes, seed 0; the whole answer is the hash.
+pub fn xxh64(bytes: &[u8]) -> u64 {
+    unsafe { vof_xxh64(bytes.as_ptr(), bytes.len()) }
+}
+
+/// Word: the place of refusals 1 to 8, else how many records. Told of each: start, tag, value length.
+pub fn scan(pack: &[u8], told: &mut [u64]) -> u64 {
+    unsafe { vof_scan(pack.as_ptr(), pack.len(), told.as_mut_ptr(), told.len()) }
+}
+
+/// Word: the place of refusals 1 to 8. Told are 16 numbers: tag; the value's start and length; the
+/// primary part's; 1 where there is a secondary part; its start and length; `c` and `z` of the primary
+/// part, then of the secondary; delete flag; length of the composite text, which `identifier` gets;
+/// start and length of a version delete's delete identifier. Starts are places of the pack.
+pub fn record(pack: &[u8], at: usize, told: &mut [u64], identifier: &mut [u8]) -> u64 {
+    unsafe {
+        vof_record(
+            pack.as_ptr(),
+            pack.len(),
+            at,
+            told.as_mut_ptr(),
+            told.len(),
+            identifier.as_mut_ptr(),
+            identifier.len(),
+        )
+    }
+}
+
+/// Told are 10 numbers: the primary part's start and length in the value; 1 where there is a secondary
+/// part; its start and length; `c` and `z` of the primary part, then of the secondary; `v`.
+pub fn value(value: &[u8], told: &mut [u64]) -> u64 {
+    unsafe { vof_value(value.as_ptr(), value.len(), told.as_mut_ptr(), told.len()) }
+}
+
+/// Word: the place of refusals 1 to 18. Told are 4 numbers: 1 where a version is found, its record's
+/// start, its value's length, its delete flag; `ulid` then gets 26 bytes. Zeros where there is nothing.
+pub fn current(
+    pack: &[u8],
+    bucket: &[u8],
+    object: &[u8],
+    told: &mut [u64],
+    ulid: &mut [u8],
+) -> u64 {
+    unsafe {
+        vof_current(
+            pack.as_ptr(),
+            pack.len(),
+            bucket.as_ptr(),
+            bucket.len(),
+            object.as_ptr(),
+            object.len(),
+            told.as_mut_ptr(),
+            told.len(),
+            ulid.as_mut_ptr(),
+            ulid.len(),
+        )
+    }
+}
+
+/// Word: the new count of bytes.
+pub fn write_block(buffer: &mut [u8], used: usize, identifier: &[u8], data: &[u8]) -> u64 {
+    unsafe {
+        vof_write_block(
+            buffer.as_mut_ptr(),
+            buffer.len(),
+            used,
+            identifier.as_ptr(),
+            identifier.len(),
+            data.as_ptr(),
+            data.len(),
+        )
+    }
+}
+
+/// Word: the new count of bytes.
+pub fn write_version(buffer: &mut [u8], used: usize, primary: &[u8]) -> u64 {
+    unsafe {
+        vof_write_version(
+            buffer.as_mut_ptr(),
+            buffer.len(),
+            used,
+            primary.as_ptr(),
+            primary.len(),
+        )
+    }
+}
+
+/// Word: the new count of bytes.
+pub fn write_delete(buffer: &mut [u8], used: usize, primary: &[u8]) -> u64 {
+    unsafe {
+        vof_write_delete(
+            buffer.as_mut_ptr(),
+            buffer.len(),
+            used,
+            primary.as_ptr(),
+            primary.len(),
+        )
+    }
+}
+
+/// Word: the new count of bytes.
+pub fn write_delete_of(
+    buffer: &mut [u8],
+    used: usize,
+    identifier: &[u8],
+    delete_ulid: &[u8],
+) -> u64 {
+    unsafe {
+        vof_write_delete_of(
+            buffer.as_mut_ptr(),
+            buffer.len(),
+            used,
+            identifier.as_ptr(),
+            identifier.len(),
+            delete_ulid.as_ptr(),
+            delete_ulid.len(),
+        )
+    }
+}
