@@ -1,0 +1,19 @@
+//! Document 01 as plainly as can be, written from the papers and not from the proved definitions: its
+//! rules, document 001's letters (docs/FORMAT.md), the published specifications of XXH64 and MessagePack.
+
+pub mod identifier;
+pub mod lookup;
+pub mod msgpack;
+pub mod pack;
+pub mod record;
+pub mod value;
+pub mod writer;
+
+#[path = "../../../bench/plain.rs"]
+pub mod xxh64;
+
+/// The longest pack.
+pub const LIMIT: u64 = 4_294_967_295;
+
+/// The number of a refusal.
+pub type Number = u8;
