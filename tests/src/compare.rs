@@ -1,0 +1,419 @@
+//! One call of the archive beside the plain implementation: the answer, and all of the lent memory.
+
+use crate::plain::identifier::Identifier;
+use crate::plain::lookup::{current, Version};
+use crate::plain::pack::read_pack;
+use crate::plain::record::{record_at, Record};
+use crate::plain::value::{read_value, Value};
+use crate::plain::{writer, Number};
+use std::process::exit;
+use vof::{raw, Refusal};
+
+/// What a call is to answer and to write at the front of the lent words and bytes.
+#[derive(Debug)]
+struct Wanted {
+    answer: u64,
+    words: Vec<u64>,
+    bytes: Vec<u8>,
+}
+
+impl Wanted {
+    fn refused(refusal: Refusal) -> Wanted {
+        Wanted {
+            answer: u64::from(refusal.number) + 256 * refusal.place.unwrap_or(0),
+            words: Vec::new(),
+            bytes: Vec::new(),
+        }
+    }
+
+    /// 19 where the result does not fit what is lent.
+    fn within(&self, words: usize, bytes: usize) -> Wanted {
+        let answer = match self.words.len() <= words && self.bytes.len() <= bytes {
+            false => 19,
+            true => self.answer,
+        };
+        let refused = answer % 256 != 0;
+        Wanted {
+            answer,
+            words: if refused {
+                Vec::new()
+            } else {
+                self.words.clone()
+            },
+            bytes: if refused {
+                Vec::new()
+            } else {
+                self.bytes.clone()
+            },
+        }
+    }
+}
+
+fn alone(number: Number) -> Refusal {
+    Refusal {
+        number,
+        place: None,
+    }
+}
+
+fn pattern_words(length: usize) -> Vec<u64> {
+    (0..length as u64)
+        .map(|i| 0xA5A5_A5A5_0000_0000 + i)
+        .collect()
+}
+
+pub fn pattern_bytes(length: usize) -> Vec<u8> {
+    (0..length).map(|i| (i * 37 + 0x5A) as u8).collect()
+}
+
+/// In hex; of what is longer than a pack of the tests only the front.
+fn shown(bytes: &[u8]) -> String {
+    let front = &bytes[..bytes.len().min(1 << 17)];
+    let digits: String = front.iter().map(|byte| format!("{byte:02x}")).collect();
+    match front.len() == bytes.len() {
+        true => digits,
+        false => format!("{digits}... of {} bytes", bytes.len()),
+    }
+}
+
+/// The archive's functions that can refuse.
+#[derive(Clone, Copy, Debug)]
+pub enum Function {
+    Scan,
+    Value,
+    Record,
+    Current,
+    WriteBlock,
+    WriteVersion,
+    WriteDelete,
+    WriteDeleteOf,
+}
+
+/// The numbers that each function can answer, 0 where it does not refuse.
+const NUMBERS: [(Function, &[usize]); 8] = [
+    (Function::Scan, &[0, 1, 2, 3, 4, 5, 6, 7, 8, 19]),
+    (Function::Value, &[0, 9, 10, 11, 12, 19]),
+    (
+        Function::Record,
+        &[
+            0, 1, 2, 3, 4, 5, 6, 7, 8, 9, 10, 11, 12, 13, 14, 15, 16, 17, 18, 19, 20,
+        ],
+    ),
+    (
+        Function::Current,
+        &[
+            0, 1, 2, 3, 4, 5, 6, 7, 8, 9, 10, 11, 12, 14, 15, 16, 17, 18, 19, 20,
+        ],
+    ),
+    (Function::WriteBlock, &[0, 19, 20]),
+    (Function::WriteVersion, &[0, 19, 20]),
+    (Function::WriteDelete, &[0, 19, 20]),
+    (Function::WriteDeleteOf, &[0, 19, 20]),
+];
+
+/// Counts what was compared, and ends the run at the first difference.
+#[derive(Default)]
+pub struct Compare {
+    pub section: &'static str,
+    pub seed: u64,
+    /// Different inputs; each is tried with lent memory of several lengths.
+    pub inputs: u64,
+    pub calls: u64,
+    /// How often each function gave each number.
+    met: [[u64; 21]; NUMBERS.len()],
+}
+
+impl Compare {
+    fn fail(&self, what: &str, inputs: &[&[u8]], told: String) -> ! {
+        let (section, seed) = (self.section, self.seed);
+        eprintln!("comparison: {section}, seed {seed}: {what}");
+        for input in inputs {
+            eprintln!("  input {}", shown(input));
+        }
+        eprintln!("  {told}");
+        exit(1);
+    }
+
+    /// A refusal that no input brings would not be compared.
+    pub fn all_met(&self) {
+        for (function, numbers) in NUMBERS {
+            for &number in numbers {
+                if self.met[function as usize][number] == 0 {
+                    self.fail(
+                        &format!("{function:?}"),
+                        &[],
+                        format!("never gave {number}"),
+                    );
+                }
+            }
+        }
+    }
+
+    fn called(&mut self, function: Function, answer: u64) {
+        self.calls += 1;
+        self.met[function as usize][(answer % 256) as usize] += 1;
+    }
+
+    /// A fact that is to hold of an input.
+    pub fn hold(&mut self, what: &str, inputs: &[&[u8]], holds: bool) {
+        self.calls += 1;
+        if !holds {
+            self.fail(what, inputs, "does not hold".into());
+        }
+    }
+
+    /// Calls with lent words and bytes of each of these lengths.
+    fn lent(
+        &mut self,
+        function: Function,
+        inputs: &[&[u8]],
+        wanted: &Wanted,
+        rooms: &[(usize, usize)],
+        call: impl Fn(&mut [u64], &mut [u8]) -> u64,
+    ) {
+        for &(words, bytes) in rooms {
+            let wanted = wanted.within(words, bytes);
+            let (mut words, mut bytes) = (pattern_words(words), pattern_bytes(bytes));
+            let (mut right_words, mut right_bytes) = (words.clone(), bytes.clone());
+            right_words[..wanted.words.len()].copy_from_slice(&wanted.words);
+            right_bytes[..wanted.bytes.len()].copy_from_slice(&wanted.bytes);
+            let answer = call(&mut words, &mut bytes);
+            self.called(function, wanted.answer);
+            if answer != wanted.answer || words != right_words || bytes != right_bytes {
+                let proved = format!("{answer} {words:?} {}", shown(&bytes));
+                let plain = format!("{} {right_words:?} {}", wanted.answer, shown(&right_bytes));
+                let told = format!("proved {proved}\n  plain  {plain}");
+                self.fail(&format!("{function:?}"), inputs, told);
+            }
+        }
+    }
+
+    pub fn xxh64(&mut self, bytes: &[u8]) {
+        self.inputs += 1;
+        self.calls += 1;
+        let (proved, plain) = (raw::xxh64(bytes), crate::plain::xxh64::xxh64(bytes));
+        if proved != plain {
+            let told = format!("proved {proved:016x}, plain {plain:016x}");
+            self.fail("Xxh64", &[bytes], told);
+        }
+    }
+
+    pub fn scan(&mut self, pack: &[u8]) {
+        self.inputs += 1;
+        let wanted = match read_pack(pack) {
+            Err(refusal) => Wanted::refused(refusal),
+            Ok(entries) => Wanted {
+                answer: 256 * entries.len() as u64,
+                words: entries.iter().flat_map(entry_words).collect(),
+                bytes: Vec::new(),
+            },
+        };
+        let exact = wanted.words.len();
+        let rooms = [exact, exact.saturating_sub(1), 0, exact + 1, exact + 7].map(|n| (n, 0));
+        let call = |words: &mut [u64], _: &mut [u8]| raw::scan(pack, words);
+        self.lent(Function::Scan, &[pack], &wanted, &rooms, call);
+    }
+
+    pub fn value(&mut self, value: &[u8]) {
+        self.inputs += 1;
+        let wanted = match read_value(value) {
+            Err(number) => Wanted::refused(alone(number)),
+            Ok(read) => Wanted {
+                answer: 0,
+                words: [&part_words(&read, 0)[..], &[read.v]].concat(),
+                bytes: Vec::new(),
+            },
+        };
+        let call = |words: &mut [u64], _: &mut [u8]| raw::value(value, words);
+        let rooms = [10, 9, 0, 13].map(|n| (n, 0));
+        self.lent(Function::Value, &[value], &wanted, &rooms, call);
+    }
+
+    pub fn record(&mut self, pack: &[u8], at: usize) {
+        self.inputs += 1;
+        let wanted = match record_at(pack, at) {
+            Err(refusal) => Wanted::refused(refusal),
+            Ok(record) => Wanted {
+                answer: 0,
+                words: record_words(&record),
+                bytes: record.content.identifier.to_text(),
+            },
+        };
+        let exact = wanted.bytes.len();
+        let short = exact.saturating_sub(1);
+        let rooms = [
+            (16, exact),
+            (15, exact),
+            (16, short),
+            (0, 0),
+            (16, 0),
+            (19, exact + 5),
+        ];
+        let call = |words: &mut [u64], bytes: &mut [u8]| raw::record(pack, at, words, bytes);
+        let place = at.to_be_bytes();
+        self.lent(Function::Record, &[pack, &place], &wanted, &rooms, call);
+    }
+
+    pub fn current(&mut self, pack: &[u8], bucket: &[u8], object: &[u8]) {
+        self.inputs += 1;
+        let wanted = match current(pack, bucket, object) {
+            Err(refusal) => Wanted::refused(refusal),
+            Ok(None) => Wanted {
+                answer: 0,
+                words: vec![0; 4],
+                bytes: Vec::new(),
+            },
+            Ok(Some(version)) => Wanted {
+                answer: 0,
+                words: version_words(&version),
+                bytes: version.identifier.ulid,
+            },
+        };
+        let rooms = [(4, 26), (3, 26), (4, 25), (0, 0), (4, 0), (0, 26), (6, 31)];
+        let call =
+            |words: &mut [u64], bytes: &mut [u8]| raw::current(pack, bucket, object, words, bytes);
+        self.lent(
+            Function::Current,
+            &[pack, bucket, object],
+            &wanted,
+            &rooms,
+            call,
+        );
+    }
+
+    /// A call of the writer, with buffers around the length that is needed. None: it is 20.
+    fn write(
+        &mut self,
+        function: Function,
+        inputs: &[&[u8]],
+        used: usize,
+        record: Option<Vec<u8>>,
+        call: impl Fn(&mut [u8]) -> u64,
+    ) {
+        self.inputs += 1;
+        let length = record.as_ref().map_or(100, Vec::len);
+        // Where no buffer could be long enough, short ones will do.
+        let end = used.saturating_add(length);
+        let exact = if end > 1 << 24 { length } else { end };
+        for room in [exact, exact - 1, 0, length - 1, exact + 9] {
+            let mut buffer = pattern_bytes(room);
+            let (wanted, right) = after_write(&record, used, room);
+            let answer = call(&mut buffer);
+            self.called(function, wanted);
+            if answer != wanted || buffer != right {
+                let proved = format!("{answer} {}", shown(&buffer));
+                let plain = format!("{wanted} {}", shown(&right));
+                let told = format!("used {used}\n  proved {proved}\n  plain  {plain}");
+                self.fail(&format!("{function:?}"), inputs, told);
+            }
+        }
+    }
+
+    pub fn write_block(&mut self, used: usize, identifier: &[u8], data: &[u8]) {
+        let record = writer::block(identifier, data).ok();
+        let call = |buffer: &mut [u8]| raw::write_block(buffer, used, identifier, data);
+        self.write(
+            Function::WriteBlock,
+            &[identifier, data],
+            used,
+            record,
+            call,
+        );
+    }
+
+    pub fn write_version(&mut self, used: usize, primary: &[u8]) {
+        let record = writer::version(primary).ok();
+        let call = |buffer: &mut [u8]| raw::write_version(buffer, used, primary);
+        self.write(Function::WriteVersion, &[primary], used, record, call);
+    }
+
+    pub fn write_delete(&mut self, used: usize, primary: &[u8]) {
+        let record = writer::delete(primary).ok();
+        let call = |buffer: &mut [u8]| raw::write_delete(buffer, used, primary);
+        self.write(Function::WriteDelete, &[primary], used, record, call);
+    }
+
+    pub fn write_delete_of(&mut self, used: usize, identifier: &[u8], delete_ulid: &[u8]) {
+        let record = writer::delete_of(identifier, delete_ulid).ok();
+        let call = |buffer: &mut [u8]| raw::write_delete_of(buffer, used, identifier, delete_ulid);
+        let inputs = [identifier, delete_ulid];
+        self.write(Function::WriteDeleteOf, &inputs, used, record, call);
+    }
+
+    /// Every reading of a pack: the scan, each record and some other places, these names.
+    pub fn pack(&mut self, pack: &[u8], places: &[usize], names: &[Identifier]) {
+        self.scan(pack);
+        for &place in places {
+            self.record(pack, place);
+        }
+        for name in names {
+            self.current(pack, &name.bucket, &name.object);
+        }
+    }
+}
+
+/// The answer of a write, and the buffer after it.
+fn after_write(record: &Option<Vec<u8>>, used: usize, room: usize) -> (u64, Vec<u8>) {
+    let mut buffer = pattern_bytes(room);
+    let Some(record) = record else {
+        return (20, buffer);
+    };
+    match writer::count(record.len(), used, room) {
+        Err(number) => (u64::from(number), buffer),
+        Ok(count) => {
+            buffer[used..count].copy_from_slice(record);
+            (256 * count as u64, buffer)
+        }
+    }
+}
+
+fn number(tag: [u8; 2]) -> u64 {
+    u64::from(u16::from_be_bytes(tag))
+}
+
+fn entry_words(&(start, tag, value): &(usize, [u8; 2], &[u8])) -> [u64; 3] {
+    [start as u64, number(tag), value.len() as u64]
+}
+
+/// The nine numbers of a value's parts; `base`: where the value starts.
+fn part_words(value: &Value, base: usize) -> [u64; 9] {
+    let (primary, secondary) = (value.primary, value.secondary);
+    [
+        (base + primary.start) as u64,
+        primary.length as u64,
+        u64::from(value.listed),
+        (base + secondary.start) as u64,
+        secondary.length as u64,
+        primary.c,
+        u64::from(primary.z),
+        secondary.c,
+        u64::from(secondary.z),
+    ]
+}
+
+fn record_words(record: &Record) -> Vec<u64> {
+    let content = &record.content;
+    let primary = record.start + record.value.primary.start;
+    let (by_start, by_length) = match content.delete_ulid {
+        None => (0, 0),
+        Some(ulid) => (primary + ulid.start, ulid.bytes.len()),
+    };
+    let mut words = vec![
+        number(record.tag),
+        record.start as u64,
+        record.bytes.len() as u64,
+    ];
+    words.extend(part_words(&record.value, record.start));
+    words.extend([
+        u64::from(content.deleted),
+        content.identifier.to_text().len() as u64,
+        by_start as u64,
+        by_length as u64,
+    ]);
+    words
+}
+
+fn version_words(version: &Version) -> Vec<u64> {
+    let (start, length) = (version.start as u64, version.value.len() as u64);
+    vec![1, start, length, u64::from(version.deleted)]
+}

@@ -1,0 +1,40 @@
+//! What is compared, a section at a time.
+
+mod damage;
+mod document;
+mod forms;
+mod large;
+mod names;
+mod properties;
+mod writing;
+
+use crate::compare::Compare;
+use crate::random::Random;
+
+type Section = (&'static str, fn(&mut Compare, &mut Random));
+
+pub const ALL: [Section; 20] = [
+    ("the documents' own cases", document::cases),
+    ("the stored lookups", document::lookups),
+    ("hashes", document::hashes),
+    ("header keys in every order and width", forms::header_orders),
+    (
+        "primary keys in every order and width",
+        forms::primary_orders,
+    ),
+    ("unknown keys of every type", forms::unknown_keys),
+    ("known keys of every type, repeated too", forms::known_keys),
+    ("nesting", forms::nesting),
+    ("integers near powers of two", forms::integers),
+    ("item lengths near powers of two", forms::item_lengths),
+    ("value lengths near powers of two", damage::value_lengths),
+    ("random packs", damage::random_packs),
+    ("bytes changed", damage::changed),
+    ("cut and grown", damage::cut_and_grown),
+    ("names", names::names),
+    ("ULIDs", names::ulids),
+    ("writing", writing::calls),
+    ("write then read", properties::read_back),
+    ("deletions and orders", properties::deletions_and_orders),
+    ("longer than the limit", large::longer_than_the_limit),
+];

@@ -1,0 +1,218 @@
+//! What the customer's demands say of the archive, through the safe functions of the `vof` crate.
+
+use crate::compare::Compare;
+use crate::generate::{any_identifier, few_identifiers, primary, records, tag, ulid, value, NAMES};
+use crate::plain::identifier::Identifier;
+use crate::plain::lookup::{current, versions, Version};
+use crate::plain::pack::{read_pack, record};
+use crate::plain::record::{read_delete, read_version};
+use crate::random::Random;
+use vof::{Entry, IDENTIFIER_LIMIT};
+
+/// What was handed to the writer.
+enum Written {
+    Block(Vec<u8>),
+    Version(Vec<u8>),
+    Delete(Vec<u8>),
+    DeleteOf(Vec<u8>),
+}
+
+fn write(buffer: &mut [u8], used: usize, identifier: &Identifier, written: &Written) -> usize {
+    let composite = identifier.to_text();
+    let count = match written {
+        Written::Block(data) => vof::write_block(buffer, used, &composite, data),
+        Written::Version(part) => vof::write_version(buffer, used, part),
+        Written::Delete(part) => vof::write_delete(buffer, used, part),
+        Written::DeleteOf(by) => vof::write_delete_of(buffer, used, &composite, by),
+    };
+    count.unwrap()
+}
+
+fn any_written(random: &mut Random, identifier: &Identifier) -> Written {
+    match random.below(4) {
+        0 => {
+            let length = random.below(300);
+            Written::Block(random.bytes(length))
+        }
+        1 => Written::Version(primary(random, b"vr", identifier)),
+        2 => Written::Delete(primary(random, b"vd", identifier)),
+        _ => Written::DeleteOf(ulid(random)),
+    }
+}
+
+/// Lists of records, written, are scanned and read as these lists.
+pub fn read_back(compare: &mut Compare, random: &mut Random) {
+    random.faults = false;
+    let mut buffer = vec![0; 1 << 16];
+    for _ in 0..10_000 {
+        let list: Vec<(Identifier, Written)> = (0..random.below(8))
+            .map(|_| {
+                let identifier = any_identifier(random);
+                let written = any_written(random, &identifier);
+                (identifier, written)
+            })
+            .collect();
+        let mut starts = vec![0];
+        for (identifier, written) in &list {
+            let used = starts[starts.len() - 1];
+            starts.push(write(&mut buffer, used, identifier, written));
+        }
+        let pack = &buffer[..starts[list.len()]];
+        compare.inputs += 1;
+        let mut entries = vec![Entry::default(); list.len()];
+        let count = vof::scan(pack, &mut entries);
+        compare.hold("the scan counts", &[pack], count == Ok(list.len()));
+        for (index, (identifier, written)) in list.iter().enumerate() {
+            let record = &pack[starts[index]..starts[index + 1]];
+            let entry = entries[index];
+            let placed =
+                entry.start as usize == starts[index] && entry.length as usize == record.len() - 32;
+            compare.hold("the entry", &[pack], placed);
+            let same = reads_as(pack, entry, identifier, written);
+            compare.hold("the record reads back", &[record], same);
+        }
+    }
+}
+
+fn reads_as(pack: &[u8], entry: Entry, identifier: &Identifier, written: &Written) -> bool {
+    let mut lent = [0; IDENTIFIER_LIMIT];
+    let record = vof::record(pack, entry.start as usize, &mut lent).unwrap();
+    let part = record.value.primary;
+    let parts = vof::value(record.bytes) == Ok(record.value) && record.tag == entry.tag;
+    let plain = part.compression == 0 && !part.encrypted && record.value.version == 0;
+    let named = record.identifier == identifier.to_text();
+    let secondary = record.value.secondary;
+    let content = match written {
+        Written::Block(data) => {
+            record.tag == vof::BLOCK
+                && secondary.is_some_and(|part| part.bytes == data)
+                && record.delete_ulid.is_none()
+        }
+        Written::Version(given) => {
+            record.tag == vof::VERSION
+                && part.bytes == given
+                && secondary.is_none()
+                && record.deleted == read_version(given).unwrap().deleted
+        }
+        Written::Delete(given) => {
+            let by = read_delete(given).unwrap().delete_ulid.unwrap();
+            record.tag == vof::VERSION_DELETE
+                && part.bytes == given
+                && secondary.is_none()
+                && record.delete_ulid == Some(by.bytes)
+        }
+        Written::DeleteOf(by) => {
+            record.tag == vof::VERSION_DELETE
+                && secondary.is_none()
+                && record.delete_ulid == Some(by)
+        }
+    };
+    parts && plain && named && content
+}
+
+/// An answer of the lookup as demand 3 compares it: where the record stands plays no part.
+type Answer = Option<(Vec<u8>, bool, Vec<u8>)>;
+
+fn answer(pack: &[u8], bucket: &str, object: &str) -> Answer {
+    let found = vof::current(pack, bucket.as_bytes(), object.as_bytes()).unwrap();
+    found.map(|found| (found.ulid.to_vec(), found.deleted, found.bytes.to_vec()))
+}
+
+fn plain_answer(pack: &[u8], bucket: &str, object: &str) -> Answer {
+    let found = current(pack, bucket.as_bytes(), object.as_bytes()).unwrap();
+    found.map(
+        |Version {
+             identifier,
+             deleted,
+             value,
+             ..
+         }| { (identifier.ulid, deleted, value.to_vec()) },
+    )
+}
+
+/// The pack without the version records of an identifier.
+fn without(pack: &[u8], identifier: &Identifier) -> Vec<u8> {
+    let (versions, _) = versions(pack).unwrap();
+    let mut left = Vec::new();
+    for (start, _, value) in read_pack(pack).unwrap() {
+        let taken = |version: &Version| version.start == start && version.identifier == *identifier;
+        if !versions.iter().any(taken) {
+            left.extend(&pack[start..start + 32 + value.len()]);
+        }
+    }
+    left
+}
+
+pub fn deletions_and_orders(compare: &mut Compare, random: &mut Random) {
+    random.faults = false;
+    for _ in 0..10_000 {
+        let list = match random.once_in(2) {
+            true => records(random, 10),
+            false => equal_if_same(random),
+        };
+        let pack = list.concat();
+        let gone = few_identifiers(random);
+        deletion(compare, random, &pack, &gone);
+        order(compare, random, list);
+    }
+}
+
+/// Deletes at the end, in both ways.
+fn deletion(compare: &mut Compare, random: &mut Random, pack: &[u8], gone: &Identifier) {
+    let before = without(pack, gone);
+    let made = Written::DeleteOf(ulid(random));
+    let handed_in = Written::Delete(primary(random, b"vd", gone));
+    for written in [made, handed_in] {
+        let mut buffer = [pack, &[0; 4096]].concat();
+        let count = write(&mut buffer, pack.len(), gone, &written);
+        let after = &buffer[..count];
+        compare.inputs += 1;
+        compare.hold("the pack stays in front", &[pack], after.starts_with(pack));
+        for (bucket, object) in NAMES {
+            let same = answer(after, bucket, object) == plain_answer(&before, bucket, object);
+            compare.hold("a deletion takes out its version alone", &[after], same);
+        }
+    }
+}
+
+/// Records of which version records that share an identifier have equal values.
+fn equal_if_same(random: &mut Random) -> Vec<Vec<u8>> {
+    let mut list: Vec<Vec<u8>> = Vec::new();
+    let mut identifiers: Vec<Identifier> = Vec::new();
+    for _ in 0..random.below(10) {
+        let (tag, identifier) = (tag(random), few_identifiers(random));
+        if tag == *b"vr" {
+            if let Some(same) = identifiers.iter().position(|other| *other == identifier) {
+                let again = list[same].clone();
+                list.push(again);
+                identifiers.push(identifier);
+                continue;
+            }
+        }
+        let part = primary(random, &tag, &identifier);
+        list.push(record(tag, &value(random, part)));
+        identifiers.push(identifier);
+    }
+    list
+}
+
+/// Shuffles, and compares the answers where version records that share an identifier have equal values.
+fn order(compare: &mut Compare, random: &mut Random, mut list: Vec<Vec<u8>>) {
+    let pack = list.concat();
+    let (versions, _) = versions(&pack).unwrap();
+    let equal = versions.iter().all(|version| {
+        let same = versions
+            .iter()
+            .find(|other| other.identifier == version.identifier);
+        same.is_none_or(|other| other.value == version.value)
+    });
+    random.shuffle(&mut list);
+    let shuffled = list.concat();
+    for (bucket, object) in NAMES {
+        compare.current(&shuffled, bucket.as_bytes(), object.as_bytes());
+        if equal {
+            let same = answer(&shuffled, bucket, object) == answer(&pack, bucket, object);
+            compare.hold("the order plays no part", &[&pack, &shuffled], same);
+        }
+    }
+}
