@@ -200,8 +200,9 @@ impl Compare {
 
     pub fn scan(&mut self, pack: &[u8]) {
         self.inputs += 1;
-        let wanted = match read_pack(pack) {
-            Err(refusal) => Wanted::refused(refusal),
+        let plain = read_pack(pack);
+        let wanted = match &plain {
+            Err(refusal) => Wanted::refused(*refusal),
             Ok(entries) => Wanted {
                 answer: 256 * entries.len() as u64,
                 words: entries.iter().flat_map(entry_words).collect(),
@@ -212,30 +213,38 @@ impl Compare {
         let rooms = [exact, exact.saturating_sub(1), 0, exact + 1, exact + 7].map(|n| (n, 0));
         let call = |words: &mut [u64], _: &mut [u8]| raw::scan(pack, words);
         self.lent(Function::Scan, &[pack], &wanted, &rooms, call);
+        let mut entries = vec![vof::Entry::default(); exact / 3];
+        let safe = vof::scan(pack, &mut entries);
+        let same = safe == plain.map(|entries| entries.len());
+        self.hold("the safe scan", &[pack], same);
     }
 
     pub fn value(&mut self, value: &[u8]) {
         self.inputs += 1;
-        let wanted = match read_value(value) {
-            Err(number) => Wanted::refused(alone(number)),
+        let plain = read_value(value).map_err(alone);
+        let wanted = match &plain {
+            Err(refusal) => Wanted::refused(*refusal),
             Ok(read) => Wanted {
                 answer: 0,
-                words: [&part_words(&read, 0)[..], &[read.v]].concat(),
+                words: [&part_words(read, 0)[..], &[read.v]].concat(),
                 bytes: Vec::new(),
             },
         };
-        let call = |words: &mut [u64], _: &mut [u8]| raw::value(value, words);
         let rooms = [10, 9, 0, 13].map(|n| (n, 0));
+        let call = |words: &mut [u64], _: &mut [u8]| raw::value(value, words);
         self.lent(Function::Value, &[value], &wanted, &rooms, call);
+        let same = vof::value(value).map(|read| read.version) == plain.map(|read| read.v);
+        self.hold("the safe value", &[value], same);
     }
 
     pub fn record(&mut self, pack: &[u8], at: usize) {
         self.inputs += 1;
-        let wanted = match record_at(pack, at) {
-            Err(refusal) => Wanted::refused(refusal),
+        let plain = record_at(pack, at);
+        let wanted = match &plain {
+            Err(refusal) => Wanted::refused(*refusal),
             Ok(record) => Wanted {
                 answer: 0,
-                words: record_words(&record),
+                words: record_words(record),
                 bytes: record.content.identifier.to_text(),
             },
         };
@@ -252,12 +261,17 @@ impl Compare {
         let call = |words: &mut [u64], bytes: &mut [u8]| raw::record(pack, at, words, bytes);
         let place = at.to_be_bytes();
         self.lent(Function::Record, &[pack, &place], &wanted, &rooms, call);
+        let mut identifier = [0; vof::IDENTIFIER_LIMIT];
+        let safe = vof::record(pack, at, &mut identifier);
+        let same = safe.map(|record| record.bytes) == plain.map(|record| record.bytes);
+        self.hold("the safe record", &[pack, &place], same);
     }
 
     pub fn current(&mut self, pack: &[u8], bucket: &[u8], object: &[u8]) {
         self.inputs += 1;
-        let wanted = match current(pack, bucket, object) {
-            Err(refusal) => Wanted::refused(refusal),
+        let plain = current(pack, bucket, object);
+        let wanted = match &plain {
+            Err(refusal) => Wanted::refused(*refusal),
             Ok(None) => Wanted {
                 answer: 0,
                 words: vec![0; 4],
@@ -265,20 +279,18 @@ impl Compare {
             },
             Ok(Some(version)) => Wanted {
                 answer: 0,
-                words: version_words(&version),
-                bytes: version.identifier.ulid,
+                words: version_words(version),
+                bytes: version.identifier.ulid.clone(),
             },
         };
-        let rooms = [(4, 26), (3, 26), (4, 25), (0, 0), (4, 0), (0, 26), (6, 31)];
+        let rooms = [(4, 26), (3, 26), (4, 25), (0, 0), (4, 0), (6, 31)];
+        let inputs = [pack, bucket, object];
         let call =
-            |words: &mut [u64], bytes: &mut [u8]| raw::current(pack, bucket, object, words, bytes);
-        self.lent(
-            Function::Current,
-            &[pack, bucket, object],
-            &wanted,
-            &rooms,
-            call,
-        );
+            |words: &mut [u64], ulid: &mut [u8]| raw::current(pack, bucket, object, words, ulid);
+        self.lent(Function::Current, &inputs, &wanted, &rooms, call);
+        let safe = vof::current(pack, bucket, object).map(|found| found.map(|it| it.bytes));
+        let same = safe == plain.map(|found| found.map(|it| it.value));
+        self.hold("the safe current version", &inputs, same);
     }
 
     /// A call of the writer, with buffers around the length that is needed. None: it is 20.

@@ -58,7 +58,7 @@ pub fn value_lengths(compare: &mut Compare, random: &mut Random) {
 }
 
 pub fn random_packs(compare: &mut Compare, random: &mut Random) {
-    for _ in 0..25_000 {
+    for _ in 0..20_000 {
         random.faults = random.once_in(2);
         let list = records(random, 6);
         let pack = list.concat();
@@ -84,7 +84,7 @@ fn other_byte(random: &mut Random, byte: u8) -> u8 {
 }
 
 pub fn changed(compare: &mut Compare, random: &mut Random) {
-    for _ in 0..250 {
+    for _ in 0..150 {
         random.faults = random.once_in(4);
         let list = records(random, 3);
         let (pack, starts) = (list.concat(), starts(&list));
@@ -110,7 +110,7 @@ pub fn changed(compare: &mut Compare, random: &mut Random) {
 }
 
 pub fn cut_and_grown(compare: &mut Compare, random: &mut Random) {
-    for _ in 0..150 {
+    for _ in 0..100 {
         random.faults = random.once_in(4);
         let list = records(random, 3);
         let (pack, starts) = (list.concat(), starts(&list));

@@ -8,6 +8,7 @@ use crate::encode::{
 use crate::generate::ULIDS;
 use crate::plain::pack::record;
 use crate::random::Random;
+use std::slice;
 
 /// All orders of the numbers below `count`.
 fn orders(count: usize) -> Vec<Vec<usize>> {
@@ -89,7 +90,6 @@ pub fn primary_orders(compare: &mut Compare, random: &mut Random) {
     };
     every_map(marker, |part| read(b"vr", part));
     every_map(&by, |part| read(b"vd", part));
-    every_map(&pairs, |part| read(b"vr", part));
     every_map(names, |identifier| {
         every_map(&[("I", identifier.to_vec())], |part| read(b"bk", part));
     });
@@ -148,7 +148,7 @@ fn with_other(pairs: &[(Tree, Tree)], at: usize, other: &Tree) -> [Tree; 3] {
     let pair = (pairs[at].0.clone(), other.clone());
     let mut replaced = pairs.to_vec();
     replaced[at] = pair.clone();
-    let before = [&[pair.clone()], pairs].concat();
+    let before = [slice::from_ref(&pair), pairs].concat();
     let after = [pairs, &[pair]].concat();
     [replaced, before, after].map(Tree::Map)
 }
@@ -169,10 +169,10 @@ fn known_header_keys(compare: &mut Compare, other: &Tree) {
         ("c", Tree::Integer(2)),
         ("z", Tree::Nil),
     ]));
-    let header = |second: Tree| {
+    let header = |s: Vec<Tree>| {
         pairs_of(map([
             ("e", Tree::Bytes(b"pp".to_vec())),
-            ("s", Tree::List(vec![second])),
+            ("s", Tree::List(s)),
             ("c", Tree::Integer(1)),
             ("z", Tree::Nil),
             ("v", Tree::Integer(0)),
@@ -185,17 +185,26 @@ fn known_header_keys(compare: &mut Compare, other: &Tree) {
         }
     };
     for at in 0..5 {
-        for map in with_other(&header(Tree::Map(second.clone())), at, other) {
+        for map in with_other(&header(vec![Tree::Map(second.clone())]), at, other) {
             value(map);
         }
     }
     for at in 0..3 {
         for map in with_other(&second, at, other) {
-            value(Tree::Map(header(map)));
+            value(Tree::Map(header(vec![map])));
         }
     }
-    value(Tree::Map(header(other.clone())));
+    let (second, other) = (Tree::Map(second), other.clone());
     value(other.clone());
+    for s in [
+        vec![],
+        vec![other.clone()],
+        vec![second.clone(), second.clone()],
+        vec![second.clone(), other.clone()],
+        vec![other, second],
+    ] {
+        value(Tree::Map(header(s)));
+    }
 }
 
 fn known_primary_keys(compare: &mut Compare, other: &Tree) {
@@ -338,7 +347,7 @@ pub fn item_lengths(compare: &mut Compare, random: &mut Random) {
 /// An item with this head, and with what it needs or too little or more.
 fn item_length(compare: &mut Compare, random: &mut Random, head: &[u8], needed: u64) {
     let lengths = [0, 1, 7, needed - needed.min(1), needed, needed + 1];
-    for length in lengths.into_iter().filter(|&length| length < 1 << 18) {
+    for length in lengths.into_iter().filter(|&length| length < 1 << 17) {
         let content: Vec<u8> = (0..length).map(|_| random.byte() % 128).collect();
         let item = [head, &content].concat();
         compare.value(&item);

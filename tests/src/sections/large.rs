@@ -178,16 +178,21 @@ fn fits(compare: &mut Compare, buffer: &mut [u8], used: usize, record: &[u8], ca
     buffer[used..end].fill(0);
 }
 
-/// One record that fills the longest pack, and a record at its very end.
+/// A record at the very end of the longest pack, and one record that fills it.
 fn longest_pack(compare: &mut Compare, pack: &mut [u8]) {
     let last = record(*b"bk", b"\x81\xa1e\xc4\x00");
     let at = PACK_LIMIT - last.len();
     pack[at..].copy_from_slice(&last);
     compare.record(pack, at);
     compare.record(pack, at + 1);
-    let length = pack.len() - 32;
-    let front = header(*b"xx", length as u64, xxh64(&pack[32..]), [0, 0]);
+    let length = PACK_LIMIT as u64 - 32;
+    let front = header(*b"xx", length, xxh64(&pack[32..]), [0, 0]);
     pack[..32].copy_from_slice(&front);
-    compare.scan(pack);
-    compare.current(pack, b"herd", b"k");
+    // Once each: this is a long way to hash.
+    compare.inputs += 2;
+    let mut entries = [vof::Entry::default(); 1];
+    let told = vof::scan(pack, &mut entries) == Ok(1) && entries[0].length == length;
+    compare.hold("the longest pack is accepted", &[&front], told);
+    let found = vof::current(pack, b"herd", b"k");
+    compare.hold("and has no versions", &[&front], found == Ok(None));
 }

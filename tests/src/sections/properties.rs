@@ -1,7 +1,8 @@
 //! What the customer's demands say of the archive, through the safe functions of the `vof` crate.
 
 use crate::compare::Compare;
-use crate::generate::{any_identifier, few_identifiers, primary, records, tag, ulid, value, NAMES};
+use crate::generate::{any_identifier, few_identifiers, identifier, primary, records, tag, ulid};
+use crate::generate::{value, NAMES, ULIDS};
 use crate::plain::identifier::Identifier;
 use crate::plain::lookup::{current, versions, Version};
 use crate::plain::pack::{read_pack, record};
@@ -113,21 +114,25 @@ fn reads_as(pack: &[u8], entry: Entry, identifier: &Identifier, written: &Writte
 /// An answer of the lookup as demand 3 compares it: where the record stands plays no part.
 type Answer = Option<(Vec<u8>, bool, Vec<u8>)>;
 
-fn answer(pack: &[u8], bucket: &str, object: &str) -> Answer {
-    let found = vof::current(pack, bucket.as_bytes(), object.as_bytes()).unwrap();
+fn answer(pack: &[u8], name: &Identifier) -> Answer {
+    let found = vof::current(pack, &name.bucket, &name.object).unwrap();
     found.map(|found| (found.ulid.to_vec(), found.deleted, found.bytes.to_vec()))
 }
 
-fn plain_answer(pack: &[u8], bucket: &str, object: &str) -> Answer {
-    let found = current(pack, bucket.as_bytes(), object.as_bytes()).unwrap();
-    found.map(
-        |Version {
-             identifier,
-             deleted,
-             value,
-             ..
-         }| { (identifier.ulid, deleted, value.to_vec()) },
-    )
+fn plain_answer(pack: &[u8], name: &Identifier) -> Answer {
+    let found = current(pack, &name.bucket, &name.object).unwrap();
+    found.map(|found| (found.identifier.ulid, found.deleted, found.value.to_vec()))
+}
+
+/// Identifiers of every object in the pack, and of some that may not be.
+fn names(pack: &[u8]) -> Vec<Identifier> {
+    let (versions, gone) = versions(pack).unwrap();
+    let there = versions.into_iter().map(|version| version.identifier);
+    let others = NAMES.map(|(bucket, object)| identifier(ULIDS[0], bucket, object));
+    let mut names: Vec<Identifier> = there.chain(gone).chain(others).collect();
+    names.sort_by(|a, b| (&a.bucket, &a.object).cmp(&(&b.bucket, &b.object)));
+    names.dedup_by(|a, b| (&a.bucket, &a.object) == (&b.bucket, &b.object));
+    names
 }
 
 /// The pack without the version records of an identifier.
@@ -145,13 +150,17 @@ fn without(pack: &[u8], identifier: &Identifier) -> Vec<u8> {
 
 pub fn deletions_and_orders(compare: &mut Compare, random: &mut Random) {
     random.faults = false;
-    for _ in 0..10_000 {
+    for _ in 0..4_000 {
         let list = match random.once_in(2) {
             true => records(random, 10),
             false => equal_if_same(random),
         };
         let pack = list.concat();
-        let gone = few_identifiers(random);
+        let (versions, _) = versions(&pack).unwrap();
+        let gone = match versions.is_empty() || random.once_in(3) {
+            true => few_identifiers(random),
+            false => versions[random.below(versions.len())].identifier.clone(),
+        };
         deletion(compare, random, &pack, &gone);
         order(compare, random, list);
     }
@@ -168,8 +177,8 @@ fn deletion(compare: &mut Compare, random: &mut Random, pack: &[u8], gone: &Iden
         let after = &buffer[..count];
         compare.inputs += 1;
         compare.hold("the pack stays in front", &[pack], after.starts_with(pack));
-        for (bucket, object) in NAMES {
-            let same = answer(after, bucket, object) == plain_answer(&before, bucket, object);
+        for name in names(after) {
+            let same = answer(after, &name) == plain_answer(&before, &name);
             compare.hold("a deletion takes out its version alone", &[after], same);
         }
     }
@@ -208,10 +217,10 @@ fn order(compare: &mut Compare, random: &mut Random, mut list: Vec<Vec<u8>>) {
     });
     random.shuffle(&mut list);
     let shuffled = list.concat();
-    for (bucket, object) in NAMES {
-        compare.current(&shuffled, bucket.as_bytes(), object.as_bytes());
+    for name in names(&pack) {
+        compare.current(&shuffled, &name.bucket, &name.object);
         if equal {
-            let same = answer(&shuffled, bucket, object) == answer(&pack, bucket, object);
+            let same = answer(&shuffled, &name) == answer(&pack, &name);
             compare.hold("the order plays no part", &[&pack, &shuffled], same);
         }
     }
