@@ -216,6 +216,8 @@ fn known_primary_keys(compare: &mut Compare, other: &Tree) {
             }
         }
         primary(compare, tag, other.clone());
+        let more = [other.shortest(), vec![0]].concat();
+        primary(compare, tag, Tree::Raw(more));
     }
     for at in 0..3 {
         for identifier in with_other(&pairs[..3], at, other) {
