@@ -4,8 +4,8 @@
 //! is copied but identifiers: parts of a record are handed back as parts of the pack. A refusal leaves
 //! lent memory as it was, and what lies behind a result keeps its content.
 //!
-//! The build links `libcapi.a`, which `rt staticlib capi` writes, from this repository's
-//! target/staticlib or from the folder that the environment variable VOF_LIBRARY names.
+//! The build links the archive that the environment variable VOF_LIBRARY names by its absolute path, else
+//! this repository's target/staticlib/libcapi.a, which `rt staticlib capi` writes.
 //!
 //! ```
 //! let mut buffer = [0; 256];
