@@ -1,6 +1,5 @@
 //! One call of the archive beside the plain implementation: the answer, and all of the lent memory.
 
-use crate::plain::identifier::Identifier;
 use crate::plain::lookup::{current, Version};
 use crate::plain::pack::read_pack;
 use crate::plain::record::{record_at, Record};
@@ -10,7 +9,7 @@ use std::process::exit;
 use vof::{raw, Refusal};
 
 /// What a call is to answer and to write at the front of the lent words and bytes.
-#[derive(Debug)]
+#[derive(Clone)]
 struct Wanted {
     answer: u64,
     words: Vec<u64>,
@@ -28,23 +27,9 @@ impl Wanted {
 
     /// 19 where the result does not fit what is lent.
     fn within(&self, words: usize, bytes: usize) -> Wanted {
-        let answer = match self.words.len() <= words && self.bytes.len() <= bytes {
-            false => 19,
-            true => self.answer,
-        };
-        let refused = answer % 256 != 0;
-        Wanted {
-            answer,
-            words: if refused {
-                Vec::new()
-            } else {
-                self.words.clone()
-            },
-            bytes: if refused {
-                Vec::new()
-            } else {
-                self.bytes.clone()
-            },
+        match self.words.len() <= words && self.bytes.len() <= bytes {
+            true => self.clone(),
+            false => Wanted::refused(alone(19)),
         }
     }
 }
@@ -350,17 +335,6 @@ impl Compare {
         let call = |buffer: &mut [u8]| raw::write_delete_of(buffer, used, identifier, delete_ulid);
         let inputs = [identifier, delete_ulid];
         self.write(Function::WriteDeleteOf, &inputs, used, record, call);
-    }
-
-    /// Every reading of a pack: the scan, each record and some other places, these names.
-    pub fn pack(&mut self, pack: &[u8], places: &[usize], names: &[Identifier]) {
-        self.scan(pack);
-        for &place in places {
-            self.record(pack, place);
-        }
-        for name in names {
-            self.current(pack, &name.bucket, &name.object);
-        }
     }
 }
 

@@ -34,8 +34,12 @@ pub fn few_identifiers(random: &mut Random) -> Identifier {
     identifier(random.of(&ULIDS), bucket, object)
 }
 
+/// One of few, so that a delete identifier is a version's too, or any.
 pub fn ulid(random: &mut Random) -> Vec<u8> {
-    (0..26).map(|_| random.of(ALPHABET)).collect()
+    match random.once_in(2) {
+        true => random.of(&ULIDS).into(),
+        false => (0..26).map(|_| random.of(ALPHABET)).collect(),
+    }
 }
 
 /// With lengths near the limits and near those where a text's head changes.

@@ -4,6 +4,9 @@
 //! is copied but identifiers: parts of a record are handed back as parts of the pack. A refusal leaves
 //! lent memory as it was, and what lies behind a result keeps its content.
 //!
+//! The build links the archive that the environment variable VOF_LIBRARY names by its absolute path, else
+//! this repository's target/staticlib/libcapi.a, which `rt staticlib capi` writes.
+//!
 //! ```
 //! let mut buffer = [0; 256];
 //! let name = b"00000000000000000000000001:herd/k";

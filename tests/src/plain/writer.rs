@@ -38,7 +38,7 @@ fn natural(number: usize) -> Vec<u8> {
 }
 
 /// `{e}` alone.
-fn with_primary(tag: &[u8; 2], primary: &[u8]) -> Vec<u8> {
+pub fn with_primary(tag: &[u8; 2], primary: &[u8]) -> Vec<u8> {
     record(*tag, &[&b"\x81\xa1e"[..], &bytes(primary)].concat())
 }
 

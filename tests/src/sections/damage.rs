@@ -1,9 +1,7 @@
 //! Packs by chance, whole and damaged.
 
 use crate::compare::Compare;
-use crate::generate::{few_identifiers, identifier, records, with_header_hash, with_length};
-use crate::generate::{with_value, NAMES, ULIDS};
-use crate::plain::identifier::Identifier;
+use crate::generate::{few_identifiers, records, with_header_hash, with_length, with_value};
 use crate::random::Random;
 
 /// Where each record starts, and where the last one ends.
@@ -15,14 +13,11 @@ fn starts(records: &[Vec<u8>]) -> Vec<usize> {
     starts
 }
 
-fn name() -> [Identifier; 1] {
-    let (bucket, object) = NAMES[0];
-    [identifier(ULIDS[0], bucket, object)]
-}
-
 /// The pack is read as a whole, and at the start of the record that was damaged.
 fn read(compare: &mut Compare, pack: &[u8], at: usize) {
-    compare.pack(pack, &[at], &name());
+    compare.scan(pack);
+    compare.record(pack, at);
+    compare.current(pack, b"herd", b"list");
 }
 
 pub fn value_lengths(compare: &mut Compare, random: &mut Random) {
@@ -32,26 +27,13 @@ pub fn value_lengths(compare: &mut Compare, random: &mut Random) {
     random.faults = false;
     for length in lengths {
         let front = records(random, 2).concat();
-        for room in [
-            0,
-            1,
-            2,
-            31,
-            32,
-            33,
-            63,
-            64,
-            300,
-            length.wrapping_sub(1),
-            length,
-            length.wrapping_add(1),
-        ] {
-            if room < 1 << 17 {
-                let value = random.bytes(room as usize);
-                for tag in [*b"vr", *b"vd", *b"bk", *b"xx"] {
-                    let pack = [&front[..], &with_length(tag, length, &value)].concat();
-                    read(compare, &pack, front.len());
-                }
+        let near = [length.wrapping_sub(1), length, length.wrapping_add(1)];
+        let short = [0, 1, 2, 31, 32, 33, 63, 64, 300];
+        for room in near.into_iter().filter(|&room| room < 1 << 17).chain(short) {
+            let value = random.bytes(room as usize);
+            for tag in [*b"vr", *b"vd", *b"bk", *b"xx"] {
+                let pack = [&front[..], &with_length(tag, length, &value)].concat();
+                read(compare, &pack, front.len());
             }
         }
     }
@@ -62,10 +44,16 @@ pub fn random_packs(compare: &mut Compare, random: &mut Random) {
         random.faults = random.once_in(2);
         let list = records(random, 6);
         let pack = list.concat();
+        compare.scan(&pack);
         let mut places = starts(&list);
         places.extend([random.below(pack.len() + 2), usize::MAX, 1 << 32]);
-        let names = [few_identifiers(random), few_identifiers(random)];
-        compare.pack(&pack, &places, &names);
+        for place in places {
+            compare.record(&pack, place);
+        }
+        for _ in 0..2 {
+            let name = few_identifiers(random);
+            compare.current(&pack, &name.bucket, &name.object);
+        }
         for record in &list {
             compare.value(&record[32..]);
         }

@@ -7,6 +7,7 @@ use crate::encode::{
 };
 use crate::generate::ULIDS;
 use crate::plain::pack::record;
+use crate::plain::writer::with_primary;
 use crate::random::Random;
 use std::slice;
 
@@ -61,12 +62,6 @@ pub fn header_orders(compare: &mut Compare, _: &mut Random) {
         let header = [b"\x82\xa1e\xc4\x01p\xa1s\x91", second].concat();
         compare.value(&[&header[..], b"abc"].concat());
     });
-}
-
-/// A record with this primary part, and a header of `e` alone.
-fn with_primary(tag: &[u8; 2], primary: &[u8]) -> Vec<u8> {
-    let header = map([("e", Tree::Bytes(primary.to_vec()))]);
-    record(*tag, &header.shortest())
 }
 
 pub fn primary_orders(compare: &mut Compare, random: &mut Random) {

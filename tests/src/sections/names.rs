@@ -3,7 +3,7 @@
 use crate::compare::Compare;
 use crate::encode::{map, text, Tree};
 use crate::generate::{any_identifier, ULIDS};
-use crate::plain::pack::record;
+use crate::plain::writer::with_primary;
 use crate::random::Random;
 
 const LENGTHS: [usize; 22] = [
@@ -26,9 +26,9 @@ fn name(compare: &mut Compare, ulid: &[u8], bucket: &[u8], object: &[u8]) {
     compare.write_version(0, &part);
     compare.write_delete(0, &part);
     let records = [
-        with_primary(b"vr", part.clone()),
-        with_primary(b"vd", part),
-        with_primary(b"bk", map([("I", pairs)]).shortest()),
+        with_primary(b"vr", &part),
+        with_primary(b"vd", &part),
+        with_primary(b"bk", &map([("I", pairs)]).shortest()),
     ];
     for record in &records {
         compare.record(record, 0);
@@ -39,16 +39,12 @@ fn name(compare: &mut Compare, ulid: &[u8], bucket: &[u8], object: &[u8]) {
     compare.current(b"", bucket, object);
 }
 
-fn with_primary(tag: &[u8; 2], primary: Vec<u8>) -> Vec<u8> {
-    record(*tag, &map([("e", Tree::Bytes(primary))]).shortest())
-}
-
 /// A composite text, handed to the writer and in a block.
 fn handed_in(compare: &mut Compare, composite: &[u8]) {
     compare.write_block(0, composite, b"data");
     compare.write_delete_of(0, composite, ULIDS[4].as_bytes());
     let part = map([("I", Tree::Text(composite.to_vec()))]);
-    compare.record(&with_primary(b"bk", part.shortest()), 0);
+    compare.record(&with_primary(b"bk", &part.shortest()), 0);
 }
 
 pub fn names(compare: &mut Compare, random: &mut Random) {
@@ -110,7 +106,7 @@ fn ulid(compare: &mut Compare, ulid: &[u8]) {
         ])
         .shortest();
         for tag in [b"vr", b"vd"] {
-            let pack = with_primary(tag, part.clone());
+            let pack = with_primary(tag, &part);
             compare.record(&pack, 0);
             compare.current(&pack, b"herd", b"k");
         }
