@@ -12,7 +12,7 @@ fn main() {
             .join("../../target/staticlib/libcapi.a"),
     };
     if !archive.exists() {
-        panic!("no {}: `rt staticlib capi` writes it", archive.display());
+        panic!("no {}: bin/archive writes it", archive.display());
     }
     let folder = archive.parent().unwrap().display();
     let stem = archive.file_stem().unwrap().to_string_lossy();
