@@ -7,15 +7,16 @@ use mathlib.Core.Path.{_≡_}
 use lib.Dec.{eqb}
 use lib.ListN.{length, take, drop}
 use Rattle.tlv.specs.Found as tlv
-use Rattle.pack.specs.Reading.{Ending, whole, refused}
+use Rattle.pack.specs.Reading.{Ending, whole, refused, packLimit}
 use Rattle.primary.specs.Answers.{textsIn, AllInside}
 use Rattle.primary.specs.declared.Text.{Text}
 use Rattle.primary.specs.declared.Texts.{Texts}
 use Rattle.records.specs.Answers as records
 use Rattle.records.specs.declared.Kind as records-kind
 use Rattle.records.specs.declared.Kind.the-variants as kind-answer
-use Rattle.current_version.specs.Current.{Role, version, deletion, other, unreadable, role, Placed, placedBy, Version, Answer, nothing, found, refusedAt, alone}
+use Rattle.current_version.specs.Current.{Role, version, deletion, other, unreadable, role, Placed, placedBy, Version, Answer, nothing, found, refusedAt, alone, readability}
 use Rattle.lookup.specs.Walk.{placedFrom, Checked}
+use Rattle.lookup.specs.Search.{greatestBelow, firstBound}
 use Rattle.lookup.specs.declared.Role as declared-role
 use Rattle.lookup.specs.declared.Role.the-variants as role-answer
 use Rattle.lookup.specs.declared.Visited.{Visited}
@@ -24,6 +25,8 @@ use Rattle.lookup.specs.declared.Candidate.{Candidate}
 use Rattle.lookup.specs.declared.Candidate.the-variants as candidate-answer
 use Rattle.lookup.specs.declared.Readable.{Readable}
 use Rattle.lookup.specs.declared.Readable.the-variants as readable-answer
+use Rattle.lookup.specs.declared.Surveyed.{Surveyed}
+use Rattle.lookup.specs.declared.Surveyed.the-variants as surveyed-answer
 use Rattle.lookup.specs.declared.Found.{Found}
 use Rattle.lookup.specs.declared.Found.the-variants as found-answer
 
@@ -83,7 +86,7 @@ candidateIn s (candidate-answer.Version v) = some (versionIn s v)
 -- ---- answers
 
 abbrev pub endingOf : Readable → Ending
-endingOf readable-answer.All = whole
+endingOf readable-answer.Yes = whole
 endingOf (readable-answer.Fault f at) = refused (records.numberOf f) at
 
 abbrev pub foundOf : List ℕ → Found → Answer
@@ -121,3 +124,18 @@ pub record Visits (limit skipped : ℕ) (s : List ℕ) (at : ℕ) (v : Visited) 
   pub inside : v .next ≤ length s
   pub texts : RoleInside s (v .role)
   pub value : at + 32 + v .len ≡ v .next
+
+-- ---- all records of a checked pack
+
+-- of the versions of this name, deleted or not, the greatest
+pub record IsGreatest (s bucket object : List ℕ) (c : Candidate) : Type 0 where
+  pub is : candidateIn s c ≡ greatestBelow (placedFrom packLimit s 0) bucket object firstBound
+  pub inside : CandidateInside s c
+
+abbrev pub surveyEnding : Surveyed → Ending
+surveyEnding (surveyed-answer.Unreadable f at) = refused (records.numberOf f) at
+surveyEnding (surveyed-answer.Greatest c) = whole
+
+pub record Surveys (s bucket object : List ℕ) (r : Surveyed) : Type 0 where
+  pub ending : surveyEnding r ≡ readability (placedFrom packLimit s 0)
+  pub greatest : (c : Candidate) → r ≡ surveyed-answer.Greatest c → IsGreatest s bucket object c
