@@ -1,9 +1,9 @@
--- `record_vectors::show::say_bytes` meets its contract: the index stays within the slice.
+-- `vectors::heads::say_bytes` meets its contract: the index stays within the slice.
 use borrow.Author.Needs.{needs}
 use Prim.Native.Nat.{_-_, _≤_}
 use lib.ListN.{length}
-use Rattle.record_vectors.proofs.show.say_bytes.Statement.{statement}
-use Rattle.record_vectors.proofs.show.say_bytes.Tie as tie
+use Rattle.vectors.proofs.heads.say_bytes.Statement.{statement}
+use Rattle.vectors.proofs.heads.say_bytes.Tie as tie
 
 abbrev Inv-loop : tie.InvT-loop
 Inv-loop s i₀ i = i ≤ length s
