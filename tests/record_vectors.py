@@ -156,7 +156,8 @@ def vector(kind, name, data, wanted=None):
     # The tag, and the place, are numbers of their own.
     cut = {"record": 2, "at": 8}.get(kind, 0)
     more = number(int.from_bytes(data[:cut], "big")) if cut else b""
-    vectors.add(kind, kind + " " + name, data[cut:], more, told_refusal(found) if refused else found)
+    found = told_refusal(found) if refused else found
+    vectors.add(kind, kind + " " + name, data[cut:], more, found)
 
 
 def at(name, place, pack, wanted=None):
@@ -171,11 +172,12 @@ def call(kind, name, made, data, id, wanted=None, used=None, room=BUFFER, pack=b
     count, refused = outcome(written, made, buffer, used, room)
     right = not refused if wanted is None else str(count) == str(wanted)
     assert right, "%s %s: wanted %s, found %s" % (kind, name, wanted or "a record", count)
-    found = told_refusal(count) if refused else "n %d " % count + told_at(number(used) + buffer)
+    after = pack if refused else bytes(buffer[:count])
+    found = told_refusal(count) if refused else "n %d " % count + told_at(number(used) + after)
     found += " buffer %016x" % xxh64(buffer)
     more = field(pack) + number(room) + number(used) + id
     vectors.add("write_" + kind, "write_%s %s" % (kind, name), data, more, found)
-    return pack if refused else bytes(buffer[:count])
+    return after
 
 
 def write_block(name, id, data, *rest, **more):

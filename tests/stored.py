@@ -31,6 +31,7 @@ class Vectors:
     """Vectors of a title, a kind, bytes, and what else the kind takes, with what is to be found."""
 
     def __init__(self, crate, kinds):
+        """kinds: in the order of their numbers in the program."""
         self.crate, self.kinds = crate, kinds
         self.inputs, self.outputs, self.titles = [], [], set()
 

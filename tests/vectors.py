@@ -1,10 +1,9 @@
 #!/usr/bin/env python3
 """tests/vectors.py [--check]: makes the vectors of crates/vectors.
 
-What is to be found stands here as it was published or follows from the specifications: the hashes are
-those of Debian's libxxhash 0.8.1, the rest is by MessagePack's specification. Without arguments the
-script writes the program's stored stdin and stdout; with --check it compares them. That the program
-prints this stdout is checked by rt.
+What is to be found is written out here: the hashes are those of Debian's libxxhash 0.8.1, the rest
+is by MessagePack's specification. Without arguments the script writes the program's stored stdin
+and stdout; with --check it compares them. That the program prints this stdout is checked by rt.
 """
 import sys
 
@@ -96,11 +95,14 @@ def depths():
 
 def cuts():
     """Every front of an item is cut."""
-    # {str 8 "a": [nil, true, -1, a float], str 16 "b": 2 bytes, 5: an extension, an extension: str 32}
     whole = b"\xde\x00\x04"
+    # str 8 "a": [nil, true, -1, a float]
     whole += b"\xd9\x01a\x94\xc0\xc3\xd1\xff\xff\xca\x3f\x80\x00\x00"
+    # str 16 "b": 2 bytes
     whole += b"\xda\x00\x01b\xc5\x00\x02\x01\x02"
+    # 5: an extension
     whole += b"\x05\xc7\x03\x07xyz"
+    # an extension: str 32
     whole += b"\xd4\x01\x02\xdb\x00\x00\x00\x02hi"
     for n in range(len(whole)):
         read("item", "first %d bytes" % n, whole[:n], "cut")

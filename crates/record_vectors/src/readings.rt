@@ -12,6 +12,7 @@ use records::Kind;
 use records::Record;
 use slices::Place;
 
+// Where the slash is, and the identifier.
 pub(crate) fn composite(text: &[u8]) {
     match identifier::split_composite(text) {
         Split::Slash(n) => say_number(b'/', n),

@@ -1,5 +1,6 @@
 // What is found, printed: numbers and texts behind a letter. `v`, `e`, `s`, `c`, `z` and `d` are keys
-// of the format; `u`, `b` and `o` ULID, bucket and object; `@` is a place, `l` a length.
+// of the format; `u`, `b` and `o` ULID, bucket and object, `?` a delete identifier; `@` is a place,
+// `l` a length, `n` a count.
 use identifier::Identifier;
 use libc::STDOUT_FILENO;
 use primary::Texts;

@@ -44,12 +44,12 @@ fn write(kind: usize, out: &mut [u8], used: usize, s: &[u8]) -> Written {
     }
 }
 
-// The count and the record, read where it was written; and the hash of the whole buffer.
+// The count, and what the record reads as in the pack of that length; and the hash of the whole buffer.
 fn say_written(buffer: &[u8], used: usize, w: Written) {
     match w {
         Written::Count(n) => {
             say_number(b'n', n);
-            readings::at_place(buffer, used);
+            readings::at_place(slices::front(buffer, n), used);
         }
         Written::Short => say_refusal(19),
         Written::Inadmissible => say_refusal(20),
@@ -68,7 +68,8 @@ fn write_to(kind: usize, buffer: &mut [u8], s: &[u8]) {
     }
 }
 
-// Longer than a large buffer: the longest record, behind others, is of more than 65,536 bytes.
+// Longer than a large buffer, for records whose content alone has 65,536 bytes. In a function of its
+// own, so that no other proof sees through it.
 fn output() -> [u8; 70000]
     ensures { λ r. ⌜ 70000 ≡ length r ⌝ }
 {

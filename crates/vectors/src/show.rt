@@ -1,4 +1,4 @@
-// What is found, printed: numbers behind a letter, `l` for a length, `@` for a place and `n` for a count.
+// What is found, printed: numbers behind a letter or a sign. `@` is a place, `l` a length, `n` a count.
 use libc::STDOUT_FILENO;
 use msgpack::Boolean;
 use msgpack::Content;
