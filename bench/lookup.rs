@@ -13,8 +13,8 @@ mod tlv;
 
 use records::{object, version, version_delete, Pack, BUCKET};
 
-// The proved function, from target/staticlib/libcapi.a.
-#[link(name = "capi", kind = "static")]
+// The proved function, from target/staticlib/libvof.a.
+#[link(name = "vof", kind = "static")]
 extern "C" {
     fn vof_current(
         pack: *const u8,

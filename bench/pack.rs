@@ -7,8 +7,8 @@ mod plain;
 mod timing;
 mod tlv;
 
-// The proved function, from target/staticlib/libcapi.a.
-#[link(name = "capi", kind = "static")]
+// The proved function, from target/staticlib/libvof.a.
+#[link(name = "vof", kind = "static")]
 extern "C" {
     fn vof_scan(pack: *const u8, pack_len: usize, told: *mut u64, told_len: usize) -> u64;
 }

@@ -6,8 +6,8 @@ use std::process::exit;
 mod plain;
 mod timing;
 
-// The proved function, from target/staticlib/libcapi.a.
-#[link(name = "capi", kind = "static")]
+// The proved function, from target/staticlib/libvof.a.
+#[link(name = "vof", kind = "static")]
 extern "C" {
     fn vof_xxh64(s: *const u8, len: usize) -> u64;
 }

@@ -27,49 +27,42 @@ from reader import (
     read_value,
     read_version,
 )
-from stored import store
+from stored import Vectors, field, number
 
-INPUT = 524288
 BUFFER = 70000
 
 # ---- what is read, as the program prints it
 
 
-def yes(b):
-    return "yes" if b else "no"
-
-
-def told_part(part):
-    return "%d %d c %d z %s" % (part.start, part.length, part.c, yes(part.z))
+def told_part(letter, part):
+    return "%s %d l %d c %d z %d" % (letter, *part)
 
 
 def told_value(value):
-    word = "secondary" if value.listed else "absent"
-    parts = (told_part(value.primary), word, told_part(value.secondary))
-    return "v %d primary %s %s %s" % (value.v, *parts)
+    primary, secondary = told_part("e", value.primary), told_part("@", value.secondary)
+    return "v %d %s s %d %s" % (value.v, primary, value.listed, secondary)
 
 
-def printed(s):
-    return "".join(chr(b) if 0x21 <= b <= 0x7E and b != 0x5C else "\\x%02x" % b for b in s)
+def told_text(letter, s):
+    return letter + " " + s.decode(errors="surrogateescape")
 
 
 def told_identifier(id):
-    name = (len(id.bucket), printed(id.bucket), len(id.object), printed(id.object))
-    return "%s %d %s %d %s" % (printed(id.ulid), *name)
+    return " ".join(map(told_text, "ubo", id))
 
 
 def told_block(s):
-    return told_identifier(read_block(s)) + " block"
+    return told_identifier(read_block(s))
 
 
 def told_version(s):
     id, deleted = read_version(s)
-    return told_identifier(id) + " d " + yes(deleted)
+    return "%s d %d" % (told_identifier(id), deleted)
 
 
 def told_delete(s):
     id, by = read_delete(s)
-    return told_identifier(id) + " by " + printed(by)
+    return told_identifier(id) + " " + told_text("?", by)
 
 
 def told_record(s):
@@ -87,35 +80,33 @@ def told_at(s):
     if place >= len(pack):
         raise Refusal("20")
     tag, value = read_tlv(pack, place)
-    return told_record(tag + value) + " value %d %d" % (place + 32, len(value))
+    return "@ %d l %d " % (place + 32, len(value)) + told_record(tag + value)
 
 
 def told_composite(s):
+    """Where the slash is, and the identifier: the answers of two functions."""
     try:
-        return "slash %d read %s" % (s.index(b"/", 27), told_identifier(composite(s)))
+        return "/ %d %s" % (s.index(b"/", 27), told_identifier(composite(s)))
     except (Refusal, ValueError):
-        raise Refusal("malformed read malformed")
+        raise Refusal("18 refused 18")
 
 
-# ---- a plain writer by document 01, into the buffer of the program
-
-buffer = bytearray(b"\xa5" * BUFFER)
-
-
-def eight(*numbers):
-    return b"".join(n.to_bytes(8, "big") for n in numbers)
+def told_refusal(refusal):
+    return "refused " + refusal.replace("at", "@")
 
 
-def written(made, used, room):
-    """made: the record, None where what is handed in is not admitted."""
+# ---- a plain writer by document 01
+
+
+def written(made, buffer, used, room):
+    """The count. made: the record, None where what is handed in is not admitted."""
     if made is None or used + len(made) > LIMIT:
         raise Refusal("20")
     end = used + len(made)
     if end > room:
         raise Refusal("19")
     buffer[used:end] = made
-    shown = printed(made) if len(made) < 256 else "%016x" % xxh64(made)
-    return "%d %s reads %s" % (end, shown, told_at(eight(used) + bytes(buffer[:end])))
+    return end
 
 
 class Held(namedtuple("Held", "ulid bucket object lengths", defaults=[None])):
@@ -124,11 +115,11 @@ class Held(namedtuple("Held", "ulid bucket object lengths", defaults=[None])):
     def bytes(self):
         return [x.encode(errors="surrogateescape") for x in self[:3]]
 
-    def shown(self):
-        """As a vector has it: the lengths, and no more bytes than the arrays hold."""
+    def given(self):
+        """As a vector has it: no more bytes than the arrays hold, and the lengths."""
         ulid, bucket, object = self.bytes()
         lengths = self.lengths or (len(bucket), len(object))
-        return [ulid, *map(eight, lengths), bucket[:63], object[:1024]]
+        return b"".join([*map(field, (ulid, bucket[:63], object[:1024])), *map(number, lengths)])
 
 
 def held_record(made, id, *more):
@@ -153,7 +144,8 @@ READERS = {
     "record": told_record,
     "at": told_at,
 }
-inputs, outputs, names = [], [], set()
+WRITERS = ["write_block", "write_version", "write_delete", "write_delete_of"]
+vectors = Vectors("record_vectors", [*READERS, *WRITERS])
 
 
 def vector(kind, name, data, wanted=None):
@@ -161,60 +153,52 @@ def vector(kind, name, data, wanted=None):
     found, refused = outcome(READERS[kind], data)
     right = not refused if wanted is None else found == str(wanted)
     assert right, "%s %s: wanted %s, found %s" % (kind, name, wanted or "a reading", found)
+    # The tag, and the place, are numbers of their own.
     cut = {"record": 2, "at": 8}.get(kind, 0)
-    add(kind, name, [data[:cut], data[cut:]] if cut else [data], found)
-
-
-def add(kind, name, shown, found):
-    name = kind + " " + name
-    assert name not in names and "|" not in name, name
-    names.add(name)
-    inputs.append("%s %s | %s: %s\n" % (kind, " ".join(s.hex() for s in shown), name, found))
-    outputs.append("%s: %s, %s\n" % (name, found, found))
+    more = number(int.from_bytes(data[:cut], "big")) if cut else b""
+    found = told_refusal(found) if refused else found
+    vectors.add(kind, kind + " " + name, data[cut:], more, found)
 
 
 def at(name, place, pack, wanted=None):
-    vector("at", name, place.to_bytes(8, "big") + pack, wanted)
+    vector("at", name, number(place) + pack, wanted)
 
 
-def call(kind, name, made, shown, wanted=None, used=0, room=BUFFER):
-    """A call of the writer. wanted: the count or the refusal; else that it is written."""
-    found, refused = outcome(written, made, used, room)
-    right = not refused if wanted is None else found.split()[0] == str(wanted)
-    assert right, "%s %s: wanted %s, found %s" % (kind, name, wanted or "a record", found)
+def call(kind, name, made, data, id, wanted=None, used=None, room=BUFFER, pack=b""):
+    """A call of the writer, behind a pack, and the pack after it. wanted: the count or the refusal;
+    else that it is written. used: the count so far, where it is not the pack's length."""
+    used = len(pack) if used is None else used
+    buffer = bytearray(pack.ljust(BUFFER, b"\xa5"))
+    count, refused = outcome(written, made, buffer, used, room)
+    right = not refused if wanted is None else str(count) == str(wanted)
+    assert right, "%s %s: wanted %s, found %s" % (kind, name, wanted or "a record", count)
+    after = pack if refused else bytes(buffer[:count])
+    found = told_refusal(count) if refused else "n %d " % count + told_at(number(used) + after)
     found += " buffer %016x" % xxh64(buffer)
-    add("write_" + kind, name, [eight(room), eight(used), *shown], found)
+    more = field(pack) + number(room) + number(used) + id
+    vectors.add("write_" + kind, "write_%s %s" % (kind, name), data, more, found)
+    return after
 
 
 def write_block(name, id, data, *rest, **more):
-    call("block", name, held_record(packs.block, id, data), [*id.shown(), data], *rest, **more)
-
-
-def write_long_block(name, id, n, *rest, **more):
-    made = held_record(packs.block, id, b"d" * n)
-    call("long_block", name, made, [*id.shown(), eight(n)], *rest, **more)
+    made = held_record(packs.block, id, data)
+    return call("block", name, made, data, id.given(), *rest, **more)
 
 
 def write_version(name, part, *rest, **more):
-    call("version", name, part_record(b"vr", read_version, part), [part], *rest, **more)
-
-
-def write_long_version(name, map, n, *rest, **more):
-    """n: the length of the primary part, which a key of its own fills."""
-    filled = n - len(item({**map, "x": sized(0xC6, 4, 0)}))
-    front = item({**map, "x": sized(0xC6, 4, filled)})
-    made = part_record(b"vr", read_version, front + b"d" * filled)
-    call("long_version", name, made, [eight(n), front], *rest, **more)
+    made = part_record(b"vr", read_version, part)
+    return call("version", name, made, part, b"", *rest, **more)
 
 
 def write_delete(name, part, *rest, **more):
-    call("delete", name, part_record(b"vd", read_delete, part), [part], *rest, **more)
+    made = part_record(b"vd", read_delete, part)
+    return call("delete", name, made, part, b"", *rest, **more)
 
 
 def write_delete_of(name, id, by, *rest, **more):
     text = by.encode(errors="surrogateescape")
     made = held_record(packs.version_delete, id, by) if is_ulid(text) else None
-    call("delete_of", name, made, [*id.shown(), text], *rest, **more)
+    return call("delete_of", name, made, text, id.given(), *rest, **more)
 
 
 def integers(n):
@@ -234,8 +218,7 @@ ODD = [(b"e", 1), (101, 2), (NIL, 3), (True, 4), ([], 5), ({}, 6), (FLOAT, 7), (
 ULID = "00000000000000000000000001"
 OTHER = "7ZZZZZZZZZZZZZZZZZZZZZZZZZ"
 HERD = ULID + ":herd/k"
-TOLD = ULID + " 4 herd 1 k"
-BLOCK = TOLD + " block"
+TOLD = "u " + ULID + " b herd o k"
 # Breaches of the rules for a ULID.
 ULIDS = [
     ("of 25 characters", ULID[:25]),
@@ -252,16 +235,16 @@ def identifiers():
     def read(name, text, wanted=None):
         vector("identifier", name, text if isinstance(text, bytes) else text.encode(), wanted)
 
-    no = "malformed read malformed"
+    no = "18 refused 18"
     printed_001 = "7YGGZJ4YSFMYW6BQVHFKD5KKTV"
     read(
         "001:484",
         printed_001 + ":bucket/object/name.txt",
-        "slash 33 read " + printed_001 + " 6 bucket 15 object/name.txt",
+        "/ 33 u " + printed_001 + " b bucket o object/name.txt",
     )
     read("001:581", "7YF1QJW74PNYV552JB3YPAJJX1:bucket/object")
     read("001:822", "7YF1QTCNCDN7FYSQFD2PFH2DCS:bucket/object")
-    read("herd", HERD, "slash 31 read " + TOLD)
+    read("herd", HERD, "/ 31 " + TOLD)
     read("all letters, first half", "0123456789ABCDEFGHJKMNPQRS:b/o")
     read("all letters, second half", "GHJKMNPQRSTVWXYZ0123456789:b/o")
     read("greatest ULID of 128 bits", OTHER + ":b/o")
@@ -271,7 +254,7 @@ def identifiers():
     read("bucket of 0", ULID + ":/o", no)
     read("object of 1025", ULID + ":b/" + "o" * 1025, no)
     read("object of 0", ULID + ":b/", no)
-    read("object with slashes", ULID + ":b//a/c/", "slash 28 read " + ULID + " 1 b 5 /a/c/")
+    read("object with slashes", ULID + ":b//a/c/", "/ 28 u " + ULID + " b b o /a/c/")
     read("no slash", ULID + ":bo", no)
     read("colon in bucket and object", ULID + ":b:/:o")
     read("bytes that are no UTF-8", ULID.encode() + b":\xff\\/\xfe \x00")
@@ -291,11 +274,11 @@ def herd_block():
     value = item({"s": [{"l": 3}], "e": part}) + b"abc"
     made = record(b"bk", value)
     assert (len(part), len(value), len(made)) == (38, 53, 85)
-    told = "v 0 primary 12 38 c 0 z no secondary 50 3 c 0 z no"
-    vector("block", "herd", part, BLOCK)
+    told = "v 0 e 12 l 38 c 0 z 0 s 1 @ 50 l 3 c 0 z 0"
+    vector("block", "herd", part, TOLD)
     vector("value", "herd", value, told)
-    vector("record", "herd", b"bk" + value, BLOCK + " " + told)
-    at("herd", 0, made, BLOCK + " " + told + " value 32 53")
+    vector("record", "herd", b"bk" + value, TOLD + " " + told)
+    at("herd", 0, made, "@ 32 l 53 " + TOLD + " " + told)
 
 
 def document_001():
@@ -310,11 +293,11 @@ def document_001():
         at("block %d of 001:581-583" % (k + 1), 101 * k, pack)
     at("end of 001:581-583", 303, pack, 20)
     part = item({"b": "bucket", "o": "object", "v": "7YF1QTCNCDN7FYSQFD2PFH2DCS"})
-    wanted = "7YF1QTCNCDN7FYSQFD2PFH2DCS 6 bucket 6 object d no"
+    wanted = "u 7YF1QTCNCDN7FYSQFD2PFH2DCS b bucket o object d 0"
     vector("version", "001:822", part, wanted)
     at("version of 001:822", 0, record(b"vr", item({"e": part})))
     k = bytes.fromhex("82A1739181A16C0CA165C410C40E") + b"value 1 headervalue 1 data"
-    vector("value", "K", k, "v 0 primary 12 16 c 0 z no secondary 28 12 c 0 z no")
+    vector("value", "K", k, "v 0 e 12 l 16 c 0 z 0 s 1 @ 28 l 12 c 0 z 0")
     vector("value", "L", k[:39], 12)
     vector("record", "K as a block: bytes, no map", b"bk" + k, 17)
 
@@ -324,8 +307,8 @@ def values_whole():
         vector("value", name, bytes(s), wanted)
 
     e = {"e": b"pp"}
-    read("header alone", item(e), "v 0 primary 5 2 c 0 z no absent 7 0 c 0 z no")
-    read("s empty", item({**e, "s": []}), "v 0 primary 5 2 c 0 z no absent 10 0 c 0 z no")
+    read("header alone", item(e), "v 0 e 5 l 2 c 0 z 0 s 0 @ 7 l 0 c 0 z 0")
+    read("s empty", item({**e, "s": []}), "v 0 e 5 l 2 c 0 z 0 s 0 @ 10 l 0 c 0 z 0")
     read("l 0", item({**e, "s": [{"l": 0}]}))
     read("e empty", item({"e": b""}))
     read("M, no e", b"\x80", 11)
@@ -437,7 +420,7 @@ def values_widths():
 
 def values_keys():
     e = ("e", b"p")
-    told = "v 3 primary %d 2 c 2 z yes secondary %d 1 c 5 z yes"
+    told = "v 3 e %d l 2 c 2 z 1 s 1 @ %d l 1 c 5 z 1"
     for k in range(4):
 
         def key(s):
@@ -544,8 +527,8 @@ def identifier_maps(kind, made):
 def blocks():
     parts("block", {"I": HERD})
     map = {"b": "herd", "o": "k", "v": ULID}
-    vector("block", "I as a map", item({"I": map}), BLOCK)
-    vector("block", "I as a map of depth 16", item({"I": {"x": lists(14), **map}}), BLOCK)
+    vector("block", "I as a map", item({"I": map}), TOLD)
+    vector("block", "I as a map of depth 16", item({"I": {"x": lists(14), **map}}), TOLD)
     vector("block", "I as a map of depth 17", item({"I": {"x": lists(15), **map}}), 16)
     identifier_maps("block", lambda *given: item({"I": pairs(*given)}))
     wrong("block", "I", lambda x: item({"I": x}), ["text"], 17)
@@ -554,7 +537,7 @@ def blocks():
     vector("block", "map in the part itself", item(map), 17)
     vector("block", "other keys of other kinds", item({"d": 5, "???": 5, "v": 5, "I": HERD}))
     for form, x in list(every_text(HERD.encode()))[1:]:
-        vector("block", "I in " + form, item({"I": x}), BLOCK)
+        vector("block", "I in " + form, item({"I": x}), TOLD)
     for name, text in [
         ("bucket of 64", ULID + ":" + "b" * 64 + "/o"),
         ("bucket of 0", ULID + ":/o"),
@@ -583,11 +566,11 @@ def versions():
     map = {"b": "herd", "o": "k", "v": ULID}
     parts("version", map)
     identifier_maps("version", pairs)
-    vector("version", "d false", item({**map, "d": False}), TOLD + " d no")
-    vector("version", "d true", item({**map, "d": True}), TOLD + " d yes")
+    vector("version", "d false", item({**map, "d": False}), TOLD + " d 0")
+    vector("version", "d true", item({**map, "d": True}), TOLD + " d 1")
     wrong("version", "d", lambda x: item({**map, "d": x}), ["false"], 17)
     again = [("d", NIL), *map.items(), ("d", True)]
-    vector("version", "repeated d, wrong first", pairs(*again), TOLD + " d yes")
+    vector("version", "repeated d, wrong first", pairs(*again), TOLD + " d 1")
     again = [("d", True), *map.items(), ("d", NIL)]
     vector("version", "repeated d, wrong last", pairs(*again), 17)
     vector("version", "repeated d", pairs(*map.items(), ("d", True), ("d", False)))
@@ -598,7 +581,7 @@ def versions():
     clone = {"p": "tape", "l": b"\x80", "f": 0, "B": 10000000, "s": 36}
     full = {"w": "owner", "A": [acl], "l": 36, "e": "etag", "N": False, "C": crypt, "p": [clone]}
     full.update({"s": {"v": 1, "b": 2}, "m": {"d": 3}, "h": True, "D": b"data"})
-    vector("version", "every key of 001", item({**map, **full, "d": True}), TOLD + " d yes")
+    vector("version", "every key of 001", item({**map, **full, "d": True}), TOLD + " d 1")
 
 
 def deletes():
@@ -606,8 +589,8 @@ def deletes():
     whole = {**map, "???": OTHER}
     parts("delete", whole)
     identifier_maps("delete", lambda *given: pairs(("???", OTHER), *given))
-    vector("delete", "in the writer's order", item(whole), TOLD + " by " + OTHER)
-    vector("delete", "in reverse", item(dict(reversed(whole.items()))), TOLD + " by " + OTHER)
+    vector("delete", "in the writer's order", item(whole), TOLD + " ? " + OTHER)
+    vector("delete", "in reverse", item(dict(reversed(whole.items()))), TOLD + " ? " + OTHER)
     vector("delete", "delete identifier of itself", item({**map, "???": ULID}))
     vector("delete", "no delete identifier", item(map), 17)
     near = {"??": OTHER, "????": OTHER}
@@ -759,8 +742,8 @@ def written_blocks():
         (65535, 65619),
         (65536, 65622),
     ]:
-        write_long_block("of %d bytes" % n, HELD, n, count)
-    write_long_block("of 65536 bytes behind others", HELD, 65536, 4000 + 65622, used=4000)
+        write_block("of %d bytes" % n, HELD, b"d" * n, count)
+    write_block("of 65536 bytes behind others", HELD, b"d" * 65536, 4000 + 65622, used=4000)
     # The widths of the text, and at 250 and 251 of the primary part.
     for n in (30, 31, 32, 250, 251, 255, 256, 1053):
         write_block("with a text of %d bytes" % n, Held(ULID, "b", "o" * (n - 29)), b"abc")
@@ -768,6 +751,12 @@ def written_blocks():
     write_block("with the longest identifier", longest, b"abc")
     write_block("with slashes in the object", Held(OTHER, "b:", "//a/"), b"/")
     write_block("with bytes that are no UTF-8", Held(ULID, "\udcff\\", "\udcfe \0"), b"\0\xff")
+
+
+def filled(map, n):
+    """A part of n bytes, which a key of its own fills."""
+    rest = n - len(item({**map, "x": sized(0xC6, 4, 0)}))
+    return item({**map, "x": sized(0xC6, 4, rest, b"d" * rest)})
 
 
 def written_parts():
@@ -778,7 +767,7 @@ def written_parts():
     write_version("delete marker", item({**map, "d": True}))
     write_version("of a delete's part", delete)
     for n, count in [(65535, 65573), (65536, 65576)]:
-        write_long_version("part of %d bytes" % n, map, n, count)
+        write_version("part of %d bytes" % n, filled(map, n), count)
     write_delete("least", delete, 32 + 5 + 72)
     write_delete("in reverse", item(dict(reversed(whole.items()))))
     write_delete("with d and I", item({**whole, "d": 5, "I": NIL}))
@@ -889,18 +878,18 @@ def rooms():
 def written_packs():
     """Records one after another; 001:584 gives 101 bytes for each of its blocks."""
     id = Held("7YF1QJW74PNYV552JB3YPAJJX1", "bucket", "object")
+    pack = b""
     for k in range(3):
         data = b"block %d data" % (k + 1)
-        write_block("%d of 001:581-583" % (k + 1), id, data, 101 * (k + 1), used=101 * k)
+        pack = write_block("%d of 001:581-583" % (k + 1), id, data, 101 * (k + 1), pack=pack)
     map = {"b": "bucket", "o": "object", "v": "7YF1QTCNCDN7FYSQFD2PFH2DCS"}
     part = item(map)
-    write_version("of 001:822 behind them", part, 303 + 85, used=303)
-    write_delete("behind them", item({**map, "???": OTHER}), 388 + 116, used=388)
-    write_block("not admitted behind them", Held(ULID, "", ""), b"", 20, used=504)
-    write_delete_of("made behind them", id, OTHER, 504 + 116, used=504)
-    write_version("too long behind them", part, 19, used=620, room=620 + 84)
-    write_version("again behind them", part, 620 + 85, used=620)
-    pack = bytes(buffer[:705])
+    pack = write_version("of 001:822 behind them", part, 303 + 85, pack=pack)
+    pack = write_delete("behind them", item({**map, "???": OTHER}), 388 + 116, pack=pack)
+    write_block("not admitted behind them", Held(ULID, "", ""), b"", 20, pack=pack)
+    pack = write_delete_of("made behind them", id, OTHER, 504 + 116, pack=pack)
+    write_version("too long behind them", part, 19, pack=pack, room=620 + 84)
+    pack = write_version("again behind them", part, 620 + 85, pack=pack)
     for place in (0, 101, 202, 303, 388, 504, 620):
         at("written pack, %d" % place, place, pack)
 
@@ -928,9 +917,7 @@ def main():
         written_packs,
     ]:
         section()
-    stdin, stdout = ("".join(lines).encode() for lines in (inputs, outputs))
-    assert len(stdin) <= INPUT, "%d bytes are more than the program reads" % len(stdin)
-    store("record_vectors", stdin, stdout)
+    vectors.store()
 
 
 main()

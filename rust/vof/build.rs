@@ -9,7 +9,7 @@ fn main() {
         Some(file) => PathBuf::from(file),
         None => current_dir()
             .unwrap()
-            .join("../../target/staticlib/libcapi.a"),
+            .join("../../target/staticlib/libvof.a"),
     };
     if !archive.exists() {
         panic!("no {}: bin/archive writes it", archive.display());

@@ -5,8 +5,8 @@ use mathlib.Core.List.{List, [], _∷_, _++_, List·Memᴰ, List·Memᴰ·head, 
 use mathlib.Core.Logic.{_⊎_, inl, inr, ⊎-elim}
 use mathlib.Core.Option.{Option, none, some}
 use mathlib.Core.Path.{_≡_, refl, sym, ap, subst, _∙_}
-use Rattle.msgpack.specs.HeadLaws.{absurd-numbers}
-use Rattle.identifier.specs.Texts.{less, either}
+use Rattle.slices.specs.Logic.{absurd-numbers, either}
+use Rattle.identifier.specs.Texts.{less}
 use Rattle.identifier.specs.Order.{less-asymmetric, less-irreflexive, less-transitive, not-less-transitive}
 use Rattle.identifier.specs.Identity.{Identity}
 use Rattle.current_version.specs.Current.{Placed, Version, versionOf, filtered, better, best}
@@ -60,7 +60,8 @@ pub some-filtered : (test : Identity → Bool) (a : Option Version) (v : Version
 unfolding filtered
 some-filtered test a v e p = rw (e, p)
 
-filtered-same : (test test′ : Identity → Bool) (a : Option Version) → ((v : Version) → a ≡ some v → test (v .identifier) ≡ test′ (v .identifier)) → filtered test a ≡ filtered test′ a
+filtered-same : (test test′ : Identity → Bool) (a : Option Version)
+    → ((v : Version) → a ≡ some v → test (v .identifier) ≡ test′ (v .identifier)) → filtered test a ≡ filtered test′ a
 unfolding filtered
 filtered-same test test′ none h = refl
 filtered-same test test′ (some v) h = rw (h v refl)
@@ -73,14 +74,16 @@ best-append test [] ys = refl
 best-append test (x ∷ xs) ys = rw (best-append test xs ys) (sym (better-associative (filtered test (versionOf x)) (best test xs) (best test ys)))
 
 -- tests that agree on the versions there find the same
-pub best-same : (test test′ : Identity → Bool) (ps : List Placed) → ((p : Placed) (v : Version) → List·Memᴰ p ps → versionOf p ≡ some v → test (v .identifier) ≡ test′ (v .identifier)) → best test ps ≡ best test′ ps
+pub best-same : (test test′ : Identity → Bool) (ps : List Placed)
+    → ((p : Placed) (v : Version) → List·Memᴰ p ps → versionOf p ≡ some v → test (v .identifier) ≡ test′ (v .identifier)) → best test ps ≡ best test′ ps
 unfolding best
 best-same test test′ [] h = refl
 best-same test test′ (p ∷ ps) h =
     rw (filtered-same test test′ (versionOf p) (λ v e. h p v (List·Memᴰ·head refl) e), best-same test test′ ps (λ q v m e. h q v (List·Memᴰ·tail m) e))
 
 -- the step of a loop that keeps the best so far: what the whole gives is what the rest gives from here
-pub best-step : (test : Identity → Bool) (all sofar : Option Version) (p : Placed) (ps : List Placed) → all ≡ better sofar (best test (p ∷ ps)) → all ≡ better (better sofar (filtered test (versionOf p))) (best test ps)
+pub best-step : (test : Identity → Bool) (all sofar : Option Version) (p : Placed) (ps : List Placed)
+    → all ≡ better sofar (best test (p ∷ ps)) → all ≡ better (better sofar (filtered test (versionOf p))) (best test ps)
 unfolding best
 best-step test all sofar p ps e = e ∙ sym (better-associative sofar (filtered test (versionOf p)) (best test ps))
 
@@ -100,7 +103,8 @@ pub record Best (test : Identity → Bool) (ps : List Placed) (v : Version) : Ty
   pub later : (p : Placed) (w : Version) → List·Memᴰ p back → Passes test (versionOf p) w → less (ulidOf v) (ulidOf w) ≡ false
 
 -- the later of two wins, and its ULID is greater, or the earlier wins, and the later's is not
-better-two : (v w : Version) → ((less (ulidOf v) (ulidOf w) ≡ true) × (better (some v) (some w) ≡ some w)) ⊎ ((less (ulidOf v) (ulidOf w) ≡ false) × (better (some v) (some w) ≡ some v))
+better-two : (v w : Version) → ((less (ulidOf v) (ulidOf w) ≡ true) × (better (some v) (some w) ≡ some w))
+    ⊎ ((less (ulidOf v) (ulidOf w) ≡ false) × (better (some v) (some w) ≡ some v))
 unfolding better
 better-two v w = ⊎-elim (λ t. inl (t, rw t)) (λ t. inr (t, rw t)) (either (less (ulidOf v) (ulidOf w)))
 
@@ -111,7 +115,8 @@ module _ (test : Identity → Bool) where
   pub best-member : {ps : List Placed} {v : Version} (c : Best test ps v) → List·Memᴰ (c .at) ps
   best-member c = rw (c .cut) (Memᴰ·append-right (c .front) (List·Memᴰ·head refl))
 
-  pub best-greatest : {ps : List Placed} {v : Version} → Best test ps v → (p : Placed) (w : Version) → List·Memᴰ p ps → Passes test (versionOf p) w → less (ulidOf v) (ulidOf w) ≡ false
+  pub best-greatest : {ps : List Placed} {v : Version} → Best test ps v → (p : Placed) (w : Version) → List·Memᴰ p ps
+      → Passes test (versionOf p) w → less (ulidOf v) (ulidOf w) ≡ false
   best-greatest {v} c p w m h =
       ⊎-elim (λ n. less-asymmetric (ulidOf w) (ulidOf v) (c .earlier p w n h))
       (λ n. ⊎-elim (λ e. here e) (λ k. c .later p w k h) (List·Memᴰ·cases-cons n))
@@ -127,14 +132,16 @@ module _ (test : Identity → Bool) where
   best-none [] e p v m o = absurd (List·Memᴰ·not-nil m)
   best-none (q ∷ ps) e p v m o = go (filtered test (versionOf q)) refl (best test ps) refl e (λ h n. best-none ps h p v n o) (List·Memᴰ·cases-cons m)
     where
-      go : (a : Option Version) → filtered test (versionOf q) ≡ a → (b : Option Version) → best test ps ≡ b → better a b ≡ none → (best test ps ≡ none → List·Memᴰ p ps → ⊥) → (p ≡ q) ⊎ List·Memᴰ p ps → ⊥
+      go : (a : Option Version) → filtered test (versionOf q) ≡ a → (b : Option Version) → best test ps ≡ b → better a b ≡ none
+          → (best test ps ≡ none → List·Memᴰ p ps → ⊥) → (p ≡ q) ⊎ List·Memᴰ p ps → ⊥
       go none f b g e rest (inl h) = no-version (sym f ∙ ap (λ (x : Placed). filtered test (versionOf x)) (sym h) ∙ passed p v o)
       go none f b g e rest (inr n) = rest (g ∙ e) n
       go (some w) f none g e rest x = no-version (sym e)
       go (some w) f (some u) g e rest x = ⊎-elim (λ t. no-version (sym e ∙ t .1)) (λ t. no-version (sym e ∙ t .1)) (better-two w u)
 
   -- a record in front that offers something smaller changes nothing
-  best-behind : (q : Placed) {ps : List Placed} {v : Version} → ((w : Version) → Passes test (versionOf q) w → less (ulidOf w) (ulidOf v) ≡ true) → Best test ps v → Best test (q ∷ ps) v
+  best-behind : (q : Placed) {ps : List Placed} {v : Version}
+      → ((w : Version) → Passes test (versionOf q) w → less (ulidOf w) (ulidOf v) ≡ true) → Best test ps v → Best test (q ∷ ps) v
   best-behind q smaller c =
       record {
         front = q ∷ c .front;
@@ -151,7 +158,8 @@ module _ (test : Identity → Bool) where
   best-found [] v e = no-version e
   best-found (q ∷ ps) v e = go (filtered test (versionOf q)) refl (best test ps) refl e (λ w h. best-found ps w h)
     where
-      first : Passes test (versionOf q) v → ((p : Placed) (w : Version) → List·Memᴰ p ps → Passes test (versionOf p) w → less (ulidOf v) (ulidOf w) ≡ false) → Best test (q ∷ ps) v
+      first : Passes test (versionOf q) v
+          → ((p : Placed) (w : Version) → List·Memᴰ p ps → Passes test (versionOf p) w → less (ulidOf v) (ulidOf w) ≡ false) → Best test (q ∷ ps) v
       first o greatest =
           record {
             front = [];
@@ -163,7 +171,8 @@ module _ (test : Identity → Bool) where
             later = greatest;
           }
 
-      go : (a : Option Version) → filtered test (versionOf q) ≡ a → (b : Option Version) → best test ps ≡ b → better a b ≡ some v → ((w : Version) → best test ps ≡ some w → Best test ps w) → Best test (q ∷ ps) v
+      go : (a : Option Version) → filtered test (versionOf q) ≡ a → (b : Option Version) → best test ps ≡ b → better a b ≡ some v
+          → ((w : Version) → best test ps ≡ some w → Best test ps w) → Best test (q ∷ ps) v
       go none f b g e rest = best-behind q (λ w h. no-version (sym f ∙ passed q w h)) (rest v (g ∙ e))
       go (some w) f none g e rest = first (filtered-some test (versionOf q) v (f ∙ e)) (λ p u m h. absurd (best-none ps g p u m h))
       go (some w) f (some u) g e rest =

@@ -5,18 +5,18 @@ use mathlib.Core.List.{List, [], _∷_, _++_, map, List·Memᴰ, Memᴰ·map, Me
 use mathlib.Core.Path.{_≡_, refl, sym, ap, subst, subst₂, _∙_}
 use lib.ListN.{length, take, drop}
 use lib.Seq.{take-at}
-use Rattle.endian.specs.Bytes.{AllBytes, sameBytes}
+use Rattle.slices.specs.Bytes.{AllBytes, sameBytes}
+use Rattle.refusals.specs.Answers as refusals
 use Rattle.tlv.specs.Layout.{Record, Fits, layout, layouts, length-layout}
 use Rattle.pack.specs.Reading.{Reading, reading}
 use Rattle.pack.specs.Acceptance.{entryOf, entriesOf, layouts-accepted}
 use Rattle.pack.specs.declared.Entry.{Entry}
 use Rattle.identifier.specs.Identity.{Identity}
-use Rattle.primary.specs.Parts as primary
 use Rattle.records.specs.Record as records
 use Rattle.records.specs.Record.{versionDeleteTag, readRecord}
 use Rattle.current_version.specs.Current.{version, role, valueOf, isName, lookup}
 use Rattle.current_version.specs.Packs.{Readable, ReadablePack, SameAnswer, ofEntry, ofRecord, value-standing, rest-standing, tags-and-values, readable-pack, pack-readable}
-use Rattle.current_version.specs.Deletion.{isVersion, takenOut, taken-out-readable, layouts-with, deletion-takes-out}
+use Rattle.current_version.specs.Deletion.{isVersion, takenOut, taken-out-readable, layouts-with, records-answer-as-taken-out}
 use Rattle.current_version.specs.Order.{howOften, SameRecords, OneValue, order-plays-no-part}
 
 -- bytes 0 to 31, and the value
@@ -35,14 +35,16 @@ kept limit i s (e ∷ es) = cond (isVersion i (role limit (e .tag) (valueOf s e)
 unfoldable pub takenOutOf : ℕ → Identity → List ℕ → List ℕ
 takenOutOf limit i s = kept limit i s (reading limit s .entries)
 
-kept-standing : (limit : ℕ) (i : Identity) (at : ℕ) (rs : List Record) (s : List ℕ) → drop at s ≡ layouts rs → kept limit i s (entriesOf at rs) ≡ layouts (takenOut limit i rs)
+kept-standing : (limit : ℕ) (i : Identity) (at : ℕ) (rs : List Record) (s : List ℕ) → drop at s ≡ layouts rs
+    → kept limit i s (entriesOf at rs) ≡ layouts (takenOut limit i rs)
 unfolding kept takenOut layouts entriesOf
 kept-standing limit i at [] s e = refl
 kept-standing limit i at (r ∷ rs) s e =
     rw (value-standing at r rs s e, bytes-standing at r rs s e, kept-standing limit i (at + length (layout r)) rs s (rest-standing at r rs s e))
     (go (isVersion i (role limit (r .tag) (r .value))))
   where
-    go : (t : Bool) → cond t (layouts (takenOut limit i rs)) (layout r ++ layouts (takenOut limit i rs)) ≡ layouts (cond t (takenOut limit i rs) (r ∷ takenOut limit i rs))
+    go : (t : Bool) → cond t (layouts (takenOut limit i rs)) (layout r ++ layouts (takenOut limit i rs))
+        ≡ layouts (cond t (takenOut limit i rs) (r ∷ takenOut limit i rs))
     go true = refl
     go false = refl
 
@@ -93,14 +95,15 @@ taken-out limit i s bytes a =
 
 -- DELETION
 pub deletion-answers-as-taken-out : (limit : ℕ) (s : List ℕ) (d : Record) (x : records.Record) (bucket object : List ℕ)
-    → AllBytes s → ReadablePack limit s → Fits d → d .tag ≡ versionDeleteTag → readRecord limit versionDeleteTag (d .value) ≡ primary.read x → length (s ++ layout d) ≤ limit → isName bucket object ≡ true
+    → AllBytes s → ReadablePack limit s → Fits d → d .tag ≡ versionDeleteTag
+    → readRecord limit versionDeleteTag (d .value) ≡ refusals.result x → length (s ++ layout d) ≤ limit → isName bucket object ≡ true
     → SameAnswer (lookup limit (s ++ layout d) bucket object) (lookup limit (takenOutOf limit (x .contents .identifier) s) bucket object)
 deletion-answers-as-taken-out limit s d x bucket object bytes a fits tag e within name =
     let w = whole-pack limit s bytes a in
     let i : Identity = x .contents .identifier in
     let after : layouts (w .rs ++ (d ∷ [])) ≡ s ++ layout d = layouts-with (w .rs) d ∙ ap (λ t. t ++ layout d) (w .bytes) in
     subst₂ (λ t u. SameAnswer (lookup limit t bucket object) (lookup limit u bucket object)) after (taken-out-is limit i s w)
-    (deletion-takes-out limit (w .rs) d x bucket object (w .readable) fits tag e (subst (λ t. length t ≤ limit) (sym after) within) name)
+    (records-answer-as-taken-out limit (w .rs) d x bucket object (w .readable) fits tag e (subst (λ t. length t ≤ limit) (sym after) within) name)
 
 one-value : (limit : ℕ) (s : List ℕ) (w : Whole limit s) → OneValueIn limit s → OneValue limit (w .rs)
 one-value limit s w one r t i f g m n p q =
@@ -122,6 +125,7 @@ rearranged-packs-answer-alike limit s t bucket object b c p q same one name =
     let v = whole-pack limit s b p in
     let w = whole-pack limit t c q in
     let often : SameRecords (v .rs) (w .rs) = λ bytes.
-    sym (times-standing bytes 0 (v .rs) s (sym (v .bytes))) ∙ ap (timesIn bytes s) (sym (v .entries)) ∙ same bytes ∙ ap (timesIn bytes t) (w .entries) ∙ times-standing bytes 0 (w .rs) t (sym (w .bytes)) in
+    sym (times-standing bytes 0 (v .rs) s (sym (v .bytes))) ∙ ap (timesIn bytes s) (sym (v .entries)) ∙ same bytes
+    ∙ ap (timesIn bytes t) (w .entries) ∙ times-standing bytes 0 (w .rs) t (sym (w .bytes)) in
     subst₂ (λ x y. SameAnswer (lookup limit x bucket object) (lookup limit y bucket object)) (v .bytes) (w .bytes)
     (order-plays-no-part limit (v .rs) (w .rs) bucket object (v .readable) (w .readable) often (one-value limit s v one) name)

@@ -5,12 +5,12 @@ use mathlib.Core.List.{List, [], _∷_, map}
 use mathlib.Core.Option.{Option, none, some}
 use lib.Dec.{eqb}
 use lib.ListN.{take, drop}
+use Rattle.refusals.specs.Answers as refusals
 use Rattle.pack.specs.Reading.{Ending, whole, refused, reading}
 use Rattle.pack.specs.declared.Entry.{Entry}
 use Rattle.identifier.specs.Texts.{less}
 use Rattle.identifier.specs.Identity.{Identity, sameIdentity, isBucket, isObject}
 use Rattle.identifier.specs.Held.{hasName}
-use Rattle.primary.specs.Parts as primary
 use Rattle.records.specs.Record as records
 use Rattle.records.specs.Record.{versionTag, versionDeleteTag, readRecord}
 
@@ -27,9 +27,9 @@ roleBy i records.block = other
 roleBy i (records.version deleteFlag) = version i deleteFlag
 roleBy i (records.versionDelete deleteId) = deletion i
 
-abbrev pub roleOf : primary.Answer records.Record → Role
-roleOf (primary.read r) = roleBy (r .contents .identifier) (r .contents .kind)
-roleOf (primary.refused n) = unreadable n
+abbrev pub roleOf : refusals.Answer records.Record → Role
+roleOf (refusals.result r) = roleBy (r .contents .identifier) (r .contents .kind)
+roleOf (refusals.refused n) = unreadable n
 
 -- `vr` and `vd`; records with other tags are passed over
 unfoldable pub isLookedAt : ℕ → Bool

@@ -7,13 +7,13 @@ use mathlib.Core.Option.{none, some}
 use mathlib.Core.Path.{_≡_, refl, sym, ap, _∙_}
 use native.Mathlib.Omega.{arith}
 use lib.ListN.{length, length-append}
+use Rattle.refusals.specs.Answers.{isResult, result}
 use Rattle.tlv.specs.Layout.{Record, Fits, layout, layouts}
 use Rattle.pack.specs.Acceptance.{AllFit}
 use Rattle.identifier.specs.Identity.{Identity, sameIdentity, sameIdentity-refl, sameIdentity-true}
 use Rattle.identifier.specs.Held.{hasName}
-use Rattle.primary.specs.Parts as primary
 use Rattle.records.specs.Record as records
-use Rattle.records.specs.Record.{versionDeleteTag, readRecord, isRead, canBeRead}
+use Rattle.records.specs.Record.{versionDeleteTag, readRecord, canBeRead}
 use Rattle.current_version.specs.Current.{Role, version, deletion, other, unreadable, role, versionBy, versionOf, filtered, better, best, deletes, isDeleted, isLive, current, isName, lookup}
 use Rattle.current_version.specs.Roles.{delete-role}
 use Rattle.current_version.specs.Packs.{Readable, SameAnswer, unplaced, same-answers}
@@ -36,7 +36,8 @@ module _ (limit : ℕ) (i : Identity) where
   taken-out-member [] r m = absurd (List·Memᴰ·not-nil m)
   taken-out-member (s ∷ rs) r m = go (isVersion i (role limit (s .tag) (s .value))) (λ n. taken-out-member rs r n) m
     where
-      go : (t : Bool) → (List·Memᴰ r (takenOut limit i rs) → List·Memᴰ r rs) → List·Memᴰ r (cond t (takenOut limit i rs) (s ∷ takenOut limit i rs)) → List·Memᴰ r (s ∷ rs)
+      go : (t : Bool) → (List·Memᴰ r (takenOut limit i rs) → List·Memᴰ r rs)
+          → List·Memᴰ r (cond t (takenOut limit i rs) (s ∷ takenOut limit i rs)) → List·Memᴰ r (s ∷ rs)
       go true rest n = List·Memᴰ·tail (rest n)
       go false rest n = ⊎-elim (λ e. List·Memᴰ·head e) (λ k. List·Memᴰ·tail (rest k)) (List·Memᴰ·cases-cons n)
 
@@ -54,7 +55,8 @@ module _ (limit : ℕ) (i : Identity) where
   taken-out-shorter [] = omega arith
   taken-out-shorter (r ∷ rs) = go (isVersion i (role limit (r .tag) (r .value))) (taken-out-shorter rs)
     where
-      go : (t : Bool) → length (layouts (takenOut limit i rs)) ≤ length (layouts rs) → length (layouts (cond t (takenOut limit i rs) (r ∷ takenOut limit i rs))) ≤ length (layout r ++ layouts rs)
+      go : (t : Bool) → length (layouts (takenOut limit i rs)) ≤ length (layouts rs)
+          → length (layouts (cond t (takenOut limit i rs) (r ∷ takenOut limit i rs))) ≤ length (layout r ++ layouts rs)
       go true rest = omega (arith, length-append (layout r) (layouts rs))
       go false rest = omega (arith, length-append (layout r) (layouts rs), length-append (layout r) (layouts (takenOut limit i rs)))
 
@@ -78,12 +80,14 @@ all-fit-with : (rs : List Record) (d : Record) → AllFit rs → Fits d → AllF
 all-fit-with [] d a f = (f, tt)
 all-fit-with (r ∷ rs) d a f = (a .0, all-fit-with rs d (a .1) f)
 
-readable-with : (limit : ℕ) (rs : List Record) (d : Record) → Readable limit rs → Fits d → canBeRead limit (d .tag) (d .value) ≡ true → length (layouts (rs ++ (d ∷ []))) ≤ limit → Readable limit (rs ++ (d ∷ []))
+readable-with : (limit : ℕ) (rs : List Record) (d : Record) → Readable limit rs → Fits d
+    → canBeRead limit (d .tag) (d .value) ≡ true → length (layouts (rs ++ (d ∷ []))) ≤ limit → Readable limit (rs ++ (d ∷ []))
 readable-with limit rs d a f c within =
     record {
       fit = all-fit-with rs d (a .fit) f;
       within = within;
-      all-read = λ r m t. ⊎-elim (λ n. a .all-read r n t) (λ n. ⊎-elim (λ e. rw e c) (λ k. absurd (List·Memᴰ·not-nil k)) (List·Memᴰ·cases-cons n)) (List·Memᴰ·append-cases rs m);
+      all-read = λ r m t. ⊎-elim (λ n. a .all-read r n t)
+          (λ n. ⊎-elim (λ e. rw e c) (λ k. absurd (List·Memᴰ·not-nil k)) (List·Memᴰ·cases-cons n)) (List·Memᴰ·append-cases rs m);
     }
 
 -- ---- what a `vd` changes: one identifier more is deleted, and it offers nothing
@@ -96,7 +100,8 @@ deletes-version i j other e = refl
 deletes-version i j (unreadable n) e = refl
 
 module _ (limit : ℕ) (i : Identity) where
-  deleted-with : (rs : List Record) (d : Record) (j : Identity) → role limit (d .tag) (d .value) ≡ deletion i → isDeleted (map (unplaced limit) (rs ++ (d ∷ []))) j ≡ (isDeleted (map (unplaced limit) rs) j || sameIdentity i j)
+  deleted-with : (rs : List Record) (d : Record) (j : Identity) → role limit (d .tag) (d .value) ≡ deletion i
+      → isDeleted (map (unplaced limit) (rs ++ (d ∷ []))) j ≡ (isDeleted (map (unplaced limit) rs) j || sameIdentity i j)
   unfolding isDeleted deletes
   deleted-with [] d j e = rw e (or-false (sameIdentity i j))
   deleted-with (r ∷ rs) d j e = rw (deleted-with rs d j e) (go (deletes j (role limit (r .tag) (r .value))))
@@ -111,12 +116,15 @@ module _ (limit : ℕ) (i : Identity) where
   deleted-without [] j = refl
   deleted-without (r ∷ rs) j = go (isVersion i (role limit (r .tag) (r .value))) refl (deleted-without rs j)
     where
-      go : (t : Bool) → isVersion i (role limit (r .tag) (r .value)) ≡ t → isDeleted (map (unplaced limit) (takenOut limit i rs)) j ≡ isDeleted (map (unplaced limit) rs) j
-          → isDeleted (map (unplaced limit) (cond t (takenOut limit i rs) (r ∷ takenOut limit i rs))) j ≡ (deletes j (role limit (r .tag) (r .value)) || isDeleted (map (unplaced limit) rs) j)
+      go : (t : Bool) → isVersion i (role limit (r .tag) (r .value)) ≡ t
+          → isDeleted (map (unplaced limit) (takenOut limit i rs)) j ≡ isDeleted (map (unplaced limit) rs) j
+          → isDeleted (map (unplaced limit) (cond t (takenOut limit i rs) (r ∷ takenOut limit i rs))) j
+          ≡ (deletes j (role limit (r .tag) (r .value)) || isDeleted (map (unplaced limit) rs) j)
       go true e rest = rw (deletes-version i j (role limit (r .tag) (r .value)) e) rest
       go false e rest = rw rest
 
-  best-with : (test : Identity → Bool) (rs : List Record) (d : Record) → role limit (d .tag) (d .value) ≡ deletion i → best test (map (unplaced limit) (rs ++ (d ∷ []))) ≡ best test (map (unplaced limit) rs)
+  best-with : (test : Identity → Bool) (rs : List Record) (d : Record) → role limit (d .tag) (d .value) ≡ deletion i
+      → best test (map (unplaced limit) (rs ++ (d ∷ []))) ≡ best test (map (unplaced limit) rs)
   unfolding best better filtered versionOf
   best-with test [] d e = rw e
   best-with test (r ∷ rs) d e = rw (best-with test rs d e)
@@ -142,8 +150,10 @@ module _ (limit : ℕ) (i : Identity) where
     best-without [] = refl
     best-without (r ∷ rs) = go (isVersion i (role limit (r .tag) (r .value))) refl (best-without rs)
       where
-        go : (t : Bool) → isVersion i (role limit (r .tag) (r .value)) ≡ t → best test (map (unplaced limit) rs) ≡ best test′ (map (unplaced limit) (takenOut limit i rs))
-            → better (filtered test (versionBy 0 (r .value) (role limit (r .tag) (r .value)))) (best test (map (unplaced limit) rs)) ≡ best test′ (map (unplaced limit) (cond t (takenOut limit i rs) (r ∷ takenOut limit i rs)))
+        go : (t : Bool) → isVersion i (role limit (r .tag) (r .value)) ≡ t
+            → best test (map (unplaced limit) rs) ≡ best test′ (map (unplaced limit) (takenOut limit i rs))
+            → better (filtered test (versionBy 0 (r .value) (role limit (r .tag) (r .value)))) (best test (map (unplaced limit) rs))
+            ≡ best test′ (map (unplaced limit) (cond t (takenOut limit i rs) (r ∷ takenOut limit i rs)))
         go true e rest = rw (filtered-out (r .value) (role limit (r .tag) (r .value)) e) rest
         go false e rest = rw (filtered-others (r .value) (role limit (r .tag) (r .value)) e, rest)
 
@@ -166,13 +176,14 @@ module _ (limit : ℕ) (i : Identity) where
 
 -- ---- the theorem
 
-pub deletion-takes-out : (limit : ℕ) (rs : List Record) (d : Record) (x : records.Record) (bucket object : List ℕ)
-    → Readable limit rs → Fits d → d .tag ≡ versionDeleteTag → readRecord limit versionDeleteTag (d .value) ≡ primary.read x → length (layouts (rs ++ (d ∷ []))) ≤ limit → isName bucket object ≡ true
+pub records-answer-as-taken-out : (limit : ℕ) (rs : List Record) (d : Record) (x : records.Record) (bucket object : List ℕ)
+    → Readable limit rs → Fits d → d .tag ≡ versionDeleteTag → readRecord limit versionDeleteTag (d .value) ≡ result x
+    → length (layouts (rs ++ (d ∷ []))) ≤ limit → isName bucket object ≡ true
     → SameAnswer (lookup limit (layouts (rs ++ (d ∷ []))) bucket object) (lookup limit (layouts (takenOut limit (x .contents .identifier) rs)) bucket object)
 unfolding canBeRead
-deletion-takes-out limit rs d x bucket object a fits tag e within name =
+records-answer-as-taken-out limit rs d x bucket object a fits tag e within name =
     let i : Identity = x .contents .identifier in
     let r : role limit (d .tag) (d .value) ≡ deletion i = ap (λ t. role limit t (d .value)) tag ∙ delete-role limit (d .value) x e in
-    let c : canBeRead limit (d .tag) (d .value) ≡ true = ap (λ t. canBeRead limit t (d .value)) tag ∙ ap isRead e in
+    let c : canBeRead limit (d .tag) (d .value) ≡ true = ap (λ t. canBeRead limit t (d .value)) tag ∙ ap isResult e in
     same-answers limit (rs ++ (d ∷ [])) (takenOut limit i rs) bucket object (readable-with limit rs d a fits c within) (taken-out-readable limit i rs a) name
     (current-with limit i rs d bucket object r)

@@ -6,10 +6,10 @@ use mathlib.Core.Logic.{_↔_, _⊎_, inl, inr, ⊎-elim}
 use mathlib.Core.Option.{Option, none, some}
 use mathlib.Core.Path.{_≡_, refl, sym, ap, subst, _∙_}
 use borrow.Author.Tests.{not-true}
-use Rattle.endian.specs.Bytes.{sameBytes, same-bytes-refl, same-bytes-equal}
+use Rattle.slices.specs.Bytes.{sameBytes, same-bytes-refl, same-bytes-equal}
+use Rattle.slices.specs.Logic.{absurd-numbers, either, clash, not-so, both}
 use Rattle.pack.specs.Reading.{Ending, whole, refused, reading}
-use Rattle.msgpack.specs.HeadLaws.{absurd-numbers}
-use Rattle.identifier.specs.Texts.{less, either, clash, not-so, both}
+use Rattle.identifier.specs.Texts.{less}
 use Rattle.identifier.specs.Order.{less-irreflexive, neither-less}
 use Rattle.identifier.specs.Identity.{Identity, sameIdentity, sameIdentity-refl, sameIdentity-true}
 use Rattle.identifier.specs.Held.{hasName}
@@ -75,7 +75,8 @@ deleted-by (p ∷ ps) i e = go (p .role) refl e (λ h. deleted-by ps i h)
     go : (r : Role) → p .role ≡ r → (deletes i r || isDeleted ps i) ≡ true → (isDeleted ps i ≡ true → Deleted ps i) → Deleted (p ∷ ps) i
     go (version j f) q h rest = behind (rest h)
     go (deletion j) q h rest =
-        ⊎-elim (λ t. record { by = p; there = List·Memᴰ·head refl; names = q ∙ ap deletion (sameIdentity-true j i t) }) (λ t. behind (rest (rw t at h))) (either (sameIdentity j i))
+        ⊎-elim (λ t. record { by = p; there = List·Memᴰ·head refl; names = q ∙ ap deletion (sameIdentity-true j i t) })
+        (λ t. behind (rest (rw t at h))) (either (sameIdentity j i))
     go other q h rest = behind (rest h)
     go (unreadable n) q h rest = behind (rest h)
 
@@ -182,9 +183,18 @@ pub record FirstUnreadable (ps : List Placed) (number place : ℕ) : Type 0 wher
 none-behind : (p : Placed) (ps : List Placed) → ((n : ℕ) → p .role ≡ unreadable n → ⊥) → NoneUnreadable ps → NoneUnreadable (p ∷ ps)
 none-behind p ps here rest q n m e = ⊎-elim (λ h. here n (ap (λ (x : Placed). x .role) (sym h) ∙ e)) (λ k. rest q n k e) (List·Memᴰ·cases-cons m)
 
-first-behind : (p : Placed) (ps : List Placed) (n place : ℕ) → ((m : ℕ) → p .role ≡ unreadable m → ⊥) → FirstUnreadable ps n place → FirstUnreadable (p ∷ ps) n place
+first-behind : (p : Placed) (ps : List Placed) (n place : ℕ) → ((m : ℕ) → p .role ≡ unreadable m → ⊥) → FirstUnreadable ps n place
+    → FirstUnreadable (p ∷ ps) n place
 first-behind p ps n place here f =
-    record { front = p ∷ f .front; at = f .at; back = f .back; cut = rw (f .cut); unread = f .unread; stands = f .stands; before = none-behind p (f .front) here (f .before) }
+    record {
+      front = p ∷ f .front;
+      at = f .at;
+      back = f .back;
+      cut = rw (f .cut);
+      unread = f .unread;
+      stands = f .stands;
+      before = none-behind p (f .front) here (f .before);
+    }
 
 -- how the reading of `vr` and `vd` records ends, as facts
 abbrev pub Ends : List Placed → Ending → Type 0
@@ -237,7 +247,8 @@ module _ (limit : ℕ) (s bucket object : List ℕ) where
 
   abbrev pub Exactly : Answer → Type 0
   Exactly (alone n) = (isName bucket object ≡ false) × (n ≡ 20)
-  Exactly (refusedAt n place) = (isName bucket object ≡ true) × ((reading limit s .ending ≡ refused n place) ⊎ ((reading limit s .ending ≡ whole) × FirstUnreadable ps n place))
+  Exactly (refusedAt n place) = (isName bucket object ≡ true)
+      × ((reading limit s .ending ≡ refused n place) ⊎ ((reading limit s .ending ≡ whole) × FirstUnreadable ps n place))
   Exactly nothing = Answers × ((p : Placed) (v : Version) → List·Memᴰ p ps → Live ps bucket object p v → ⊥)
   Exactly (found v) = Answers × IsCurrent ps bucket object v
 
@@ -245,7 +256,8 @@ module _ (limit : ℕ) (s bucket object : List ℕ) where
   unfolding lookup answerIn
   lookup-is = go (isName bucket object) refl (reading limit s .ending) refl (readability ps) (readability-ends ps) (current ps bucket object) refl
     where
-      go : (t : Bool) → isName bucket object ≡ t → (e : Ending) → reading limit s .ending ≡ e → (f : Ending) → Ends ps f → (c : Option Version) → current ps bucket object ≡ c → Exactly (cond t (unlessRefused e (unlessRefused f (answerOf c))) (alone 20))
+      go : (t : Bool) → isName bucket object ≡ t → (e : Ending) → reading limit s .ending ≡ e → (f : Ending) → Ends ps f
+          → (c : Option Version) → current ps bucket object ≡ c → Exactly (cond t (unlessRefused e (unlessRefused f (answerOf c))) (alone 20))
       go true n whole a whole r none c = (record { name = n; accepted = a; readable = r }, none-exactly ps bucket object .0 c)
       go true n whole a whole r (some v) c = (record { name = n; accepted = a; readable = r }, current-is ps bucket object v c)
       go true n whole a (refused m place) r d c = (n, inr (a, r))

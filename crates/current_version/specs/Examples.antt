@@ -5,25 +5,27 @@ use mathlib.Core.List.{List, [], _∷_, _++_, map}
 use mathlib.Core.Path.{_≡_, refl, ap}
 use native.Mathlib.Omega.{arith}
 use lib.ListN.{length, getD, replicate}
-use Rattle.endian.specs.Bytes.{sameBytes}
+use Rattle.slices.specs.Bytes.{sameBytes}
+use Rattle.refusals.specs.Sheet.{lowest}
+use Rattle.refusals.specs.Limit.{packLimit}
 use Rattle.endian.specs.Numbers.{little, big, littleBytes, bigBytes}
 use Rattle.endian.specs.Places.{holds, numberAt}
 use Rattle.xxh64.specs.Xxh64.{add, mul, rotl, foldHigh, lane, taken, round, mergeAccumulator, converge, stripes, consume8, consume4, consume1, consume, avalanche, xxh64}
 use Rattle.tlv.specs.Layout.{Record, bytesOf, fields, head, layout, layouts, field}
-use Rattle.tlv.specs.Found.{headerRows, valueRows, lowest, headerOf, step}
-use Rattle.pack.specs.Reading.{packLimit, records, reading}
+use Rattle.tlv.specs.Found.{headerRows, valueRows, headerOf, step}
+use Rattle.pack.specs.Reading.{records, reading}
 use Rattle.msgpack.specs.Formats.{formats, formatOf}
 use Rattle.msgpack.specs.Items.{headOf, passItems, passHead, passItem}
 use Rattle.msgpack.specs.Readers.{isWhole, contentAt, readBoolean, integerOf, readInteger, countAt}
 use Rattle.msgpack.specs.Lookup.{keyAt, lastWhere, lastValue, under}
-use Rattle.value.specs.Fields.{readNatural, naturalUnder, bytesUnder, isThere}
-use Rattle.value.specs.Header.{withMap, withList, header}
-use Rattle.value.specs.Header as value-header
-use Rattle.value.specs.Reading as value
 use Rattle.identifier.specs.Texts.{member, all, less}
 use Rattle.identifier.specs.Ulid.{alphabet, isCharacter, isUlid}
 use Rattle.identifier.specs.Identity.{sized, isBucket, isObject, identity, isValid, identityOf, sameIdentity}
 use Rattle.identifier.specs.Held.{hasName}
+use Rattle.value.specs.Fields.{readNatural, naturalUnder, bytesUnder, isThere}
+use Rattle.value.specs.Header.{withMap, withList, header}
+use Rattle.value.specs.Header as value-header
+use Rattle.value.specs.Reading as value
 use Rattle.primary.specs.Parts as primary
 use Rattle.primary.specs.Parts.{fills, textAt, textUnder, textsUnder, deletedUnder, ulidOf}
 use Rattle.records.specs.Record.{blockTag, versionTag, versionDeleteTag, isKnown, contents, toldRows, readRecord}
@@ -130,7 +132,8 @@ rows =
     ∷ gives (is three false (plain herd three) 78) (vr (marker two) ∷ vr (plain herd three) ∷ [])
     -- of another bucket: neither found, nor deleted by a `vd` of this one
     ∷ gives (is one false (plain herd one) 75) (vr (plain flock two) ∷ vr (plain herd one) ∷ [])
-    ∷ asks (layouts (vd one ∷ vr (plain flock one) ∷ [])) flock scan (found (record { identifier = identity (ulid one) flock scan; deleteFlag = false; value = plain flock one; start = 106 }))
+    ∷ asks (layouts (vd one ∷ vr (plain flock one) ∷ [])) flock scan
+    (found (record { identifier = identity (ulid one) flock scan; deleteFlag = false; value = plain flock one; start = 106 }))
     ∷ asks (layouts (vr (plain herd one) ∷ [])) herd flock nothing
     -- another tag is passed over; the first `vr` or `vd` that cannot be read is told, of whichever name
     ∷ gives (is one false (plain herd one) 32) (with blockTag [] ∷ vr (plain herd one) ∷ [])
@@ -143,13 +146,14 @@ rows =
     ∷ []
 
 pub rows-hold : map (λ (r : Row). lookup packLimit (r .pack) (r .bucket) (r .object)) rows ≡ map (λ (r : Row). r .answer) rows
-unfolding rows layouts layout head fields bytesOf bigBytes littleBytes little big add mul rotl foldHigh lane taken round mergeAccumulator converge stripes consume8 consume4 consume1 consume avalanche xxh64
-    field headerRows valueRows lowest headerOf step records reading
-    passItem passHead passItems headOf isWhole contentAt readBoolean integerOf readInteger countAt keyAt sameBytes lastWhere lastValue under formatOf formats numberAt holds
-    readNatural naturalUnder bytesUnder isThere value-header.alone withMap withList header value.reading
-    fills textAt textUnder textsUnder deletedUnder ulidOf primary.version primary.versionDelete isUlid isCharacter alphabet isBucket isObject isValid identityOf sized member all
-    isKnown contents toldRows readRecord
-    isLookedAt role less hasName sameIdentity versionOf filtered better best deletes isDeleted isLive current readability answerIn isName lookup
+unfolding rows layouts layout head fields bytesOf bigBytes littleBytes little big add mul rotl foldHigh lane taken round
+    mergeAccumulator converge stripes consume8 consume4 consume1 consume avalanche xxh64 field headerRows valueRows
+    lowest headerOf step records reading passItem passHead passItems headOf isWhole contentAt readBoolean integerOf
+    readInteger countAt keyAt sameBytes lastWhere lastValue under formatOf formats numberAt holds readNatural
+    naturalUnder bytesUnder isThere value-header.alone withMap withList header value.reading fills textAt textUnder
+    textsUnder deletedUnder ulidOf primary.version primary.versionDelete isUlid isCharacter alphabet isBucket isObject
+    isValid identityOf sized member all isKnown contents toldRows readRecord isLookedAt role less hasName sameIdentity
+    versionOf filtered better best deletes isDeleted isLive current readability answerIn isName lookup
 rows-hold = refl
 
 -- ---- ORDER without its premise: the same two records, and two answers
@@ -188,5 +192,6 @@ one-value-is-needed = (
   },
 )
   where
-    row : (k : ℕ) → getD (map (λ (r : Row). lookup packLimit (r .pack) (r .bucket) (r .object)) rows) k nothing ≡ getD (map (λ (r : Row). r .answer) rows) k nothing
+    row : (k : ℕ) → getD (map (λ (r : Row). lookup packLimit (r .pack) (r .bucket) (r .object)) rows) k nothing
+        ≡ getD (map (λ (r : Row). r .answer) rows) k nothing
     row k = ap (λ l. getD l k nothing) rows-hold

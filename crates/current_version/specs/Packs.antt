@@ -7,17 +7,18 @@ use mathlib.Core.Option.{Option, none, some}
 use mathlib.Core.Path.{_≡_, refl, sym, ap, subst, _∙_}
 use lib.ListN.{length, take, drop}
 use lib.Seq.{drop-at, drop-drop}
-use Rattle.endian.specs.Bytes.{AllBytes}
+use Rattle.slices.specs.Bytes.{AllBytes}
+use Rattle.slices.specs.Logic.{absurd-numbers}
+use Rattle.refusals.specs.Answers as refusals
+use Rattle.refusals.specs.Answers.{isResult}
 use Rattle.tlv.specs.Layout.{Record, layout, layouts}
 use Rattle.pack.specs.Reading.{Reading, Ending, whole, reading}
 use Rattle.pack.specs.declared.Entry.{Entry}
 use Rattle.pack.specs.Acceptance.{AllFit, entryOf, entriesOf, layouts-accepted, accepted-exactly, accepted-within}
-use Rattle.msgpack.specs.HeadLaws.{absurd-numbers}
 use Rattle.identifier.specs.Texts.{less}
 use Rattle.identifier.specs.Identity.{Identity}
-use Rattle.primary.specs.Parts as primary
 use Rattle.records.specs.Record as records
-use Rattle.records.specs.Record.{readRecord, isRead, canBeRead}
+use Rattle.records.specs.Record.{readRecord, canBeRead}
 use Rattle.records.specs.Laws.{value-there}
 use Rattle.current_version.specs.Current.{Role, version, deletion, other, unreadable, roleBy, roleOf, isLookedAt, role, Placed, placedBy, valueOf, placed, Version, versionBy, versionOf, filtered, better, best, isDeleted, isLive, current, Answer, nothing, found, refusedAt, alone, unreadableFirst, readability, answerOf, answerIn, isName, lookup}
 use Rattle.current_version.specs.Best.{no-version, same-version, ulidOf, best-same}
@@ -32,7 +33,8 @@ pub value-standing : (at : ℕ) (r : Record) (rs : List Record) (s : List ℕ) �
 value-standing at r rs s e = ap (λ t. take (length (r .value)) (drop 32 t)) e ∙ value-there r (layouts rs)
 
 pub rest-standing : (at : ℕ) (r : Record) (rs : List Record) (s : List ℕ) → drop at s ≡ layout r ++ layouts rs → drop (at + length (layout r)) s ≡ layouts rs
-rest-standing at r rs s e = sym (drop-drop (length (layout r)) at s) ∙ ap (drop (length (layout r))) e ∙ drop-at (layout r) (layouts rs) (length (layout r)) refl
+rest-standing at r rs s e = sym (drop-drop (length (layout r)) at s) ∙ ap (drop (length (layout r))) e
+    ∙ drop-at (layout r) (layouts rs) (length (layout r)) refl
 
 placed-standing : (limit at : ℕ) (rs : List Record) (s : List ℕ) → drop at s ≡ layouts rs → map (placed limit s) (entriesOf at rs) ≡ standing limit at rs
 unfolding layouts entriesOf standing
@@ -56,7 +58,8 @@ pub record Readable (limit : ℕ) (rs : List Record) : Type 0 where
   pub within : length (layouts rs) ≤ limit
   pub all-read : AllRead limit rs
 
-read-first : (limit tag : ℕ) (value : List ℕ) (p : Placed) (next : Ending) → (isLookedAt tag ≡ true → canBeRead limit tag value ≡ true) → unreadableFirst p (role limit tag value) next ≡ next
+read-first : (limit tag : ℕ) (value : List ℕ) (p : Placed) (next : Ending)
+    → (isLookedAt tag ≡ true → canBeRead limit tag value ≡ true) → unreadableFirst p (role limit tag value) next ≡ next
 unfolding role canBeRead
 read-first limit tag value p next h = go (isLookedAt tag) (readRecord limit tag value) h
   where
@@ -65,16 +68,17 @@ read-first limit tag value p next h = go (isLookedAt tag) (readRecord limit tag 
     by i (records.version f) = refl
     by i (records.versionDelete d) = refl
 
-    go : (t : Bool) (a : primary.Answer records.Record) → (t ≡ true → isRead a ≡ true) → unreadableFirst p (cond t (roleOf a) other) next ≡ next
-    go true (primary.read r) h = by (r .contents .identifier) (r .contents .kind)
-    go true (primary.refused n) h = let e = h refl in absurd-numbers (cc)
+    go : (t : Bool) (a : refusals.Answer records.Record) → (t ≡ true → isResult a ≡ true) → unreadableFirst p (cond t (roleOf a) other) next ≡ next
+    go true (refusals.result r) h = by (r .contents .identifier) (r .contents .kind)
+    go true (refusals.refused n) h = let e = h refl in absurd-numbers (cc)
     go false a h = refl
 
 pub all-readable : (limit at : ℕ) (rs : List Record) → AllRead limit rs → readability (standing limit at rs) ≡ whole
 unfolding readability standing
 all-readable limit at [] h = refl
 all-readable limit at (r ∷ rs) h =
-    read-first limit (r .tag) (r .value) (placedBy limit at (r .tag) (r .value)) (readability (standing limit (at + length (layout r)) rs)) (h r (List·Memᴰ·head refl))
+    read-first limit (r .tag) (r .value) (placedBy limit at (r .tag) (r .value))
+    (readability (standing limit (at + length (layout r)) rs)) (h r (List·Memᴰ·head refl))
     ∙ all-readable limit (at + length (layout r)) rs (λ s m. h s (List·Memᴰ·tail m))
 
 -- ---- the same said of a pack's bytes
@@ -107,7 +111,8 @@ module _ (limit : ℕ) (s : List ℕ) where
       record {
         accepted = ap (λ (r : Reading). r .ending) read;
         all-read = λ e m.
-            let o = Memᴰ·of-map ofRecord rs (subst (List·Memᴰ (ofEntry s e)) (sym same) (Memᴰ·map (ofEntry s) (subst (λ (r : Reading). List·Memᴰ e (r .entries)) read m))) in
+            let o = Memᴰ·of-map ofRecord rs
+            (subst (List·Memᴰ (ofEntry s e)) (sym same) (Memᴰ·map (ofEntry s) (subst (λ (r : Reading). List·Memᴰ e (r .entries)) read m))) in
             subst (Reads limit) (o .2) (a .all-read (o .0) (o .1));
       }
 
@@ -171,7 +176,8 @@ forget-better (some v) (some w) = go (less (ulidOf v) (ulidOf w))
     go true = refl
     go false = refl
 
-forget-filtered : (test : Identity → Bool) (at : ℕ) (value : List ℕ) (r : Role) → forget (filtered test (versionBy at value r)) ≡ filtered test (versionBy 0 value r)
+forget-filtered : (test : Identity → Bool) (at : ℕ) (value : List ℕ) (r : Role)
+    → forget (filtered test (versionBy at value r)) ≡ filtered test (versionBy 0 value r)
 unfolding filtered
 forget-filtered test at value (version i f) = go (test i)
   where
@@ -197,10 +203,12 @@ unfolding isDeleted standing
 deleted-unplaced limit at [] i = refl
 deleted-unplaced limit at (r ∷ rs) i = rw (deleted-unplaced limit (at + length (layout r)) rs i)
 
-forget-current : (limit at : ℕ) (rs : List Record) (bucket object : List ℕ) → forget (current (standing limit at rs) bucket object) ≡ current (map (unplaced limit) rs) bucket object
+forget-current : (limit at : ℕ) (rs : List Record) (bucket object : List ℕ)
+    → forget (current (standing limit at rs) bucket object) ≡ current (map (unplaced limit) rs) bucket object
 unfolding current isLive
 forget-current limit at rs bucket object =
-    ap forget (best-same (isLive (standing limit at rs) bucket object) (isLive (map (unplaced limit) rs) bucket object) (standing limit at rs) (λ p v m e. rw (deleted-unplaced limit at rs (v .identifier))))
+    ap forget (best-same (isLive (standing limit at rs) bucket object) (isLive (map (unplaced limit) rs) bucket object)
+    (standing limit at rs) (λ p v m e. rw (deleted-unplaced limit at rs (v .identifier))))
     ∙ forget-best (isLive (map (unplaced limit) rs) bucket object) limit at rs
 
 same-forgotten : (a b : Option Version) → forget a ≡ forget b → SameAnswer (answerOf a) (answerOf b)
@@ -217,6 +225,12 @@ pub same-answers : (limit : ℕ) (rs ts : List Record) (bucket object : List ℕ
     → SameAnswer (lookup limit (layouts rs) bucket object) (lookup limit (layouts ts) bucket object)
 unfolding answerIn
 same-answers limit rs ts bucket object a b name e =
-    rw (lookup-layouts limit rs bucket object (a .fit) (a .within) name, lookup-layouts limit ts bucket object (b .fit) (b .within) name, all-readable limit 0 rs (a .all-read), all-readable limit 0 ts (b .all-read))
+    rw (
+      lookup-layouts limit rs bucket object (a .fit) (a .within) name,
+      lookup-layouts limit ts bucket object (b .fit)
+          (b .within) name,
+      all-readable limit 0 rs (a .all-read),
+      all-readable limit 0 ts (b .all-read),
+    )
     (same-forgotten (current (standing limit 0 rs) bucket object) (current (standing limit 0 ts) bucket object)
     (forget-current limit 0 rs bucket object ∙ e ∙ sym (forget-current limit 0 ts bucket object)))

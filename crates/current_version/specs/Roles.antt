@@ -6,7 +6,8 @@ use mathlib.Core.Option.{none, some}
 use mathlib.Core.Path.{_≡_, refl, sym, ap, subst, _∙_}
 use borrow.Author.Tests.{eqb-true}
 use lib.Dec.{eqb}
-use Rattle.msgpack.specs.HeadLaws.{absurd-numbers}
+use Rattle.slices.specs.Logic.{absurd-numbers}
+use Rattle.refusals.specs.Answers as refusals
 use Rattle.identifier.specs.Identity.{Identity, isValid}
 use Rattle.primary.specs.Parts as primary
 use Rattle.primary.specs.Exactly.{version-names}
@@ -16,25 +17,27 @@ use Rattle.records.specs.Laws.{read-as}
 use Rattle.current_version.specs.Current.{Role, version, deletion, other, unreadable, roleBy, roleOf, isLookedAt, role, placedBy, Version, versionBy, versionOf, deletes}
 
 -- a `vd` that is read names its version identifier
-pub delete-role : (limit : ℕ) (value : List ℕ) (x : records.Record) → readRecord limit versionDeleteTag value ≡ primary.read x → role limit versionDeleteTag value ≡ deletion (x .contents .identifier)
+pub delete-role : (limit : ℕ) (value : List ℕ) (x : records.Record) → readRecord limit versionDeleteTag value ≡ refusals.result x
+    → role limit versionDeleteTag value ≡ deletion (x .contents .identifier)
 unfolding role isLookedAt contents
 delete-role limit value x e = rw e (go (primary.versionDelete (primaryIn value (x .told))) (read-as limit versionDeleteTag value x e .primary-tells))
   where
-    go : (a : primary.Answer primary.VersionDelete) → ofVersionDelete a ≡ primary.read (x .contents) → roleBy (x .contents .identifier) (x .contents .kind) ≡ deletion (x .contents .identifier)
-    go (primary.read v) f =
+    go : (a : refusals.Answer primary.VersionDelete) → ofVersionDelete a ≡ refusals.result (x .contents)
+        → roleBy (x .contents .identifier) (x .contents .kind) ≡ deletion (x .contents .identifier)
+    go (refusals.result v) f =
         let is : record { identifier = v .identifier; kind = records.versionDelete (v .deleteId) } ≡ x .contents = cc in
         rw (← is)
-    go (primary.refused n) f = absurd-numbers (cc)
+    go (refusals.refused n) f = absurd-numbers (cc)
 
 delete-no-version : (limit : ℕ) (value : List ℕ) (i : Identity) (f : Bool) → role limit versionDeleteTag value ≡ version i f → ⊥
 unfolding role isLookedAt
 delete-no-version limit value i f e = go (readRecord limit versionDeleteTag value) refl e
   where
-    go : (a : primary.Answer records.Record) → readRecord limit versionDeleteTag value ≡ a → roleOf a ≡ version i f → ⊥
-    go (primary.read x) r h =
+    go : (a : refusals.Answer records.Record) → readRecord limit versionDeleteTag value ≡ a → roleOf a ≡ version i f → ⊥
+    go (refusals.result x) r h =
         let d : deletion (x .contents .identifier) ≡ version i f = sym (delete-role limit value x r) ∙ e in
         absurd-numbers (cc)
-    go (primary.refused n) r h = absurd-numbers (cc)
+    go (refusals.refused n) r h = absurd-numbers (cc)
 
 -- so it tells no version
 pub delete-tells-none : (limit start : ℕ) (value : List ℕ) → versionBy start value (role limit versionDeleteTag value) ≡ none
@@ -50,16 +53,17 @@ version-no-deletion : (limit : ℕ) (value : List ℕ) (i : Identity) → role l
 unfolding role isLookedAt contents
 version-no-deletion limit value i e = go (readRecord limit versionTag value) refl e
   where
-    told : (x : records.Record) → roleBy (x .contents .identifier) (x .contents .kind) ≡ deletion i → (a : primary.Answer primary.Version) → ofVersion a ≡ primary.read (x .contents) → ⊥
-    told x h (primary.read v) q =
+    told : (x : records.Record) → roleBy (x .contents .identifier) (x .contents .kind) ≡ deletion i
+        → (a : refusals.Answer primary.Version) → ofVersion a ≡ refusals.result (x .contents) → ⊥
+    told x h (refusals.result v) q =
         let is : record { identifier = v .identifier; kind = records.version (v .deleted) } ≡ x .contents = cc in
         let same : version (v .identifier) (v .deleted) ≡ deletion i = ap (λ (c : Contents). roleBy (c .identifier) (c .kind)) is ∙ h in
         absurd-numbers (cc)
-    told x h (primary.refused n) q = absurd-numbers (cc)
+    told x h (refusals.refused n) q = absurd-numbers (cc)
 
-    go : (a : primary.Answer records.Record) → readRecord limit versionTag value ≡ a → roleOf a ≡ deletion i → ⊥
-    go (primary.read x) r h = told x h (primary.version (primaryIn value (x .told))) (read-as limit versionTag value x r .primary-tells)
-    go (primary.refused n) r h = absurd-numbers (cc)
+    go : (a : refusals.Answer records.Record) → readRecord limit versionTag value ≡ a → roleOf a ≡ deletion i → ⊥
+    go (refusals.result x) r h = told x h (primary.version (primaryIn value (x .told))) (read-as limit versionTag value x r .primary-tells)
+    go (refusals.refused n) r h = absurd-numbers (cc)
 
 -- a `vr` names no version
 pub version-deletes-none : (limit : ℕ) (value : List ℕ) (i : Identity) → deletes i (role limit versionTag value) ≡ false
@@ -76,17 +80,19 @@ version-valid : (limit : ℕ) (value : List ℕ) (i : Identity) (f : Bool) → r
 unfolding role isLookedAt contents
 version-valid limit value i f e = go (readRecord limit versionTag value) refl e
   where
-    told : (x : records.Record) → roleBy (x .contents .identifier) (x .contents .kind) ≡ version i f → (a : primary.Answer primary.Version) → primary.version (primaryIn value (x .told)) ≡ a → ofVersion a ≡ primary.read (x .contents) → isValid i ≡ true
-    told x h (primary.read v) p q =
+    told : (x : records.Record) → roleBy (x .contents .identifier) (x .contents .kind) ≡ version i f
+        → (a : refusals.Answer primary.Version) → primary.version (primaryIn value (x .told)) ≡ a
+        → ofVersion a ≡ refusals.result (x .contents) → isValid i ≡ true
+    told x h (refusals.result v) p q =
         let is : record { identifier = v .identifier; kind = records.version (v .deleted) } ≡ x .contents = cc in
         let same : version (v .identifier) (v .deleted) ≡ version i f = ap (λ (c : Contents). roleBy (c .identifier) (c .kind)) is ∙ h in
         let id : v .identifier ≡ i = cc in
         subst (λ j. isValid j ≡ true) id (version-names (primaryIn value (x .told)) v p .rules)
-    told x h (primary.refused n) p q = absurd-numbers (cc)
+    told x h (refusals.refused n) p q = absurd-numbers (cc)
 
-    go : (a : primary.Answer records.Record) → readRecord limit versionTag value ≡ a → roleOf a ≡ version i f → isValid i ≡ true
-    go (primary.read x) r h = told x h (primary.version (primaryIn value (x .told))) refl (read-as limit versionTag value x r .primary-tells)
-    go (primary.refused n) r h = absurd-numbers (cc)
+    go : (a : refusals.Answer records.Record) → readRecord limit versionTag value ≡ a → roleOf a ≡ version i f → isValid i ≡ true
+    go (refusals.result x) r h = told x h (primary.version (primaryIn value (x .told))) refl (read-as limit versionTag value x r .primary-tells)
+    go (refusals.refused n) r h = absurd-numbers (cc)
 
 -- a version has the tag `vr`, and its identifier keeps the rules
 pub record IsVersion (tag : ℕ) (i : Identity) : Type 0 where
@@ -97,7 +103,8 @@ pub version-role : (limit tag : ℕ) (value : List ℕ) (i : Identity) (f : Bool
 unfolding role isLookedAt
 version-role limit tag value i f e = first (eqb tag versionTag) refl (eqb tag versionDeleteTag) refl e
   where
-    first : (t : Bool) → eqb tag versionTag ≡ t → (u : Bool) → eqb tag versionDeleteTag ≡ u → cond (t || u) (roleOf (readRecord limit tag value)) other ≡ version i f → IsVersion tag i
+    first : (t : Bool) → eqb tag versionTag ≡ t → (u : Bool) → eqb tag versionDeleteTag ≡ u
+        → cond (t || u) (roleOf (readRecord limit tag value)) other ≡ version i f → IsVersion tag i
     first true p u q h =
         let is : tag ≡ versionTag = eqb-true tag versionTag p in
         record { tag-is = is; rules = version-valid limit value i f (ap (λ t. role limit t value) (sym is) ∙ e) }
@@ -105,7 +112,8 @@ version-role limit tag value i f e = first (eqb tag versionTag) refl (eqb tag ve
     first false p false q h = absurd-numbers (cc)
 
 -- a record that tells a version has that role
-pub version-told : (limit start tag : ℕ) (value : List ℕ) (v : Version) → versionOf (placedBy limit start tag value) ≡ some v → role limit tag value ≡ version (v .identifier) (v .deleteFlag)
+pub version-told : (limit start tag : ℕ) (value : List ℕ) (v : Version) → versionOf (placedBy limit start tag value) ≡ some v
+    → role limit tag value ≡ version (v .identifier) (v .deleteFlag)
 unfolding versionOf
 version-told limit start tag value v e = go (role limit tag value) e
   where

@@ -6,15 +6,16 @@ use mathlib.Core.Option.{Option, none, some}
 use mathlib.Core.Path.{_≡_, refl, sym, ap, subst, _∙_}
 use native.Mathlib.Omega.{arith}
 use lib.ListN.{length, take}
-use Rattle.endian.specs.Bytes.{AllBytes}
-use Rattle.pack.specs.Reading.{packLimit}
-use Rattle.msgpack.specs.HeadLaws.{absurd-numbers}
+use Rattle.slices.specs.Bytes.{AllBytes}
+use Rattle.slices.specs.Logic.{absurd-numbers}
+use Rattle.refusals.specs.Answers as refusals
+use Rattle.refusals.specs.Limit.{packLimit}
+use Rattle.refusals.specs.Answers.{result}
 use Rattle.identifier.specs.Identity.{Identity}
 use Rattle.records.specs.Record.{versionDeleteTag}
-use Rattle.writer.specs.Writing as writer
-use Rattle.writer.specs.Writing.{Item, deletion, tagOf, ofIdentity, count, answerOf, written, bufferAfter}
+use Rattle.writer.specs.Writing.{Item, deletion, tagOf, ofIdentity, answerOf, written, bufferAfter}
 use Rattle.writer.specs.declared.Written.{Written}
-use Rattle.writer_model.specs.Refusals.{written-exactly}
+use Rattle.writer_laws.specs.Refusals.{written-exactly}
 use Rattle.current_version.specs.Current.{Answer, isName, lookup}
 use Rattle.current_version.specs.Packs.{ReadablePack}
 use Rattle.lookup.specs.Answers.{foundOf, FoundInside}
@@ -53,7 +54,7 @@ record Counted (used n : ℕ) (asked : Option Item) (before : List ℕ) : Type 0
   takes-out : (bucket object : List ℕ) → AsksDelete asked → AllBytes (bufferAfter packLimit used asked before) → ReadablePack packLimit (take used before) → isName bucket object ≡ true
       → TakesOut packLimit asked (take used before) bucket object (lookup packLimit (take n (bufferAfter packLimit used asked before)) bucket object)
 
-counted : (used n : ℕ) (asked : Option Item) (before : List ℕ) → written packLimit (length before) used asked ≡ count n → Counted used n asked before
+counted : (used n : ℕ) (asked : Option Item) (before : List ℕ) → written packLimit (length before) used asked ≡ result n → Counted used n asked before
 unfolding written
 counted used n none before e = absurd-numbers (cc)
 counted used n (some item) before e =
@@ -70,12 +71,12 @@ module _ (used : ℕ) (asked : Option Item) (before after : List ℕ) where
 
   module _ (bucket object : List ℕ) (r : Deletion) where
     record LooksUp (n : ℕ) (x : Answer) : Type 0 where
-      wrote : written packLimit (length before) used asked ≡ count n
+      wrote : written packLimit (length before) used asked ≡ result n
       found : x ≡ lookup packLimit (take n after) bucket object
 
-    looks-up : (n : ℕ) (x : Answer) (a : writer.Answer) → written packLimit (length before) used asked ≡ a → looked-up n x ≡ afterwards after bucket object a → LooksUp n x
-    looks-up n x (count m) p e = record { wrote = cc; found = cc }
-    looks-up n x (writer.refused m) p e = absurd-numbers (cc)
+    looks-up : (n : ℕ) (x : Answer) (a : refusals.Answer ℕ) → written packLimit (length before) used asked ≡ a → looked-up n x ≡ afterwards after bucket object a → LooksUp n x
+    looks-up n x (result m) p e = record { wrote = cc; found = cc }
+    looks-up n x (refusals.refused m) p e = absurd-numbers (cc)
 
     pub deletion-holds : AsksDelete asked → AllBytes after → (w : Written) → answerOf w ≡ written packLimit (length before) used asked → after ≡ bufferAfter packLimit used asked before
         → answersOf after r ≡ afterwards after bucket object (answerOf w) → DeletionInside after r → DeletionHolds used asked before bucket object r after

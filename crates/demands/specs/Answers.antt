@@ -5,9 +5,10 @@ use mathlib.Core.List.{List}
 use mathlib.Core.Option.{Option}
 use mathlib.Core.Path.{_≡_}
 use lib.ListN.{length, take}
-use Rattle.pack.specs.Reading.{packLimit}
-use Rattle.writer.specs.Writing as writer
-use Rattle.writer.specs.Writing.{Item, count, written, bufferAfter}
+use Rattle.refusals.specs.Answers as refusals
+use Rattle.refusals.specs.Limit.{packLimit}
+use Rattle.refusals.specs.Answers.{result}
+use Rattle.writer.specs.Writing.{Item, written, bufferAfter}
 use Rattle.writer.specs.declared.Written.{Written}
 use Rattle.writer.specs.declared.Written.the-variants.{Count}
 use Rattle.current_version.specs.Current.{Answer, isName, lookup}
@@ -33,9 +34,9 @@ answersOf buf Short = refused 19
 answersOf buf Inadmissible = refused 20
 
 -- by what the writer answers and the buffer then holds
-abbrev pub afterwards : List ℕ → List ℕ → List ℕ → writer.Answer → Answers
-afterwards buf bucket object (count n) = looked-up n (lookup packLimit (take n buf) bucket object)
-afterwards buf bucket object (writer.refused n) = refused n
+abbrev pub afterwards : List ℕ → List ℕ → List ℕ → (refusals.Answer ℕ) → Answers
+afterwards buf bucket object (result n) = looked-up n (lookup packLimit (take n buf) bucket object)
+afterwards buf bucket object (refusals.refused n) = refused n
 
 -- a count lies in the buffer
 pub record CountInside (buf : List ℕ) (w : Written) : Type 0 where
@@ -52,8 +53,10 @@ pub record DeletionHolds (used : ℕ) (asked : Option Item) (before bucket objec
   pub found-inside : DeletionInside after r
   -- where the writer adds it, the front is as long as was told
   pub told-inside : (n : ℕ) (f : Found) → r ≡ LookedUp n f → used ≤ length before
-  -- demand 3: and where this front is accepted and its `vr` and `vd` records can all be read, the answer for an object is that for the front with all `vr` records of the identifier taken out
-  pub takes-out : (n : ℕ) (f : Found) → r ≡ LookedUp n f → ReadablePack packLimit (take used before) → isName bucket object ≡ true → TakesOut packLimit asked (take used before) bucket object (foundOf (take n after) f)
+  -- demand 3: and where this front is accepted and its `vr` and `vd` records can all be read, the answer for an object is that for the
+  -- front with all `vr` records of the identifier taken out
+  pub takes-out : (n : ℕ) (f : Found) → r ≡ LookedUp n f → ReadablePack packLimit (take used before) → isName bucket object ≡ true
+      → TakesOut packLimit asked (take used before) bucket object (foundOf (take n after) f)
 
 -- ---- a lookup in two packs
 
@@ -62,5 +65,7 @@ pub record OrderHolds (first second bucket object : List ℕ) (r : Both) : Type 
   pub second-is : foundOf second (r .second) ≡ lookup packLimit second bucket object
   pub first-inside : FoundInside first (r .first)
   pub second-inside : FoundInside second (r .second)
-  -- demand 3: where both are accepted, their `vr` and `vd` records can all be read, they have the same records, each as often, and `vr` records that share an identifier have equal values, the answers for an object are the same
-  pub alike : ReadablePack packLimit first → ReadablePack packLimit second → SameRecordsIn packLimit first second → OneValueIn packLimit first → isName bucket object ≡ true → SameAnswer (foundOf first (r .first)) (foundOf second (r .second))
+  -- demand 3: where both are accepted, their `vr` and `vd` records can all be read, they have the same records, each as often, and `vr`
+  -- records that share an identifier have equal values, the answers for an object are the same
+  pub alike : ReadablePack packLimit first → ReadablePack packLimit second → SameRecordsIn packLimit first second
+      → OneValueIn packLimit first → isName bucket object ≡ true → SameAnswer (foundOf first (r .first)) (foundOf second (r .second))

@@ -4,14 +4,16 @@ use mathlib.Core.Bool.{false, true}
 use mathlib.Core.List.{List, [], _∷_, _++_, map}
 use mathlib.Core.Path.{_≡_, refl}
 use lib.ListN.{take, set}
-use Rattle.endian.specs.Bytes.{sameBytes}
+use Rattle.slices.specs.Bytes.{sameBytes}
+use Rattle.refusals.specs.Answers as refusals
+use Rattle.refusals.specs.Sheet.{lowest}
+use Rattle.refusals.specs.Limit.{packLimit}
 use Rattle.endian.specs.Numbers.{little, big}
 use Rattle.endian.specs.Places.{holds, numberAt}
 use Rattle.xxh64.specs.Xxh64.{add, mul, rotl, foldHigh, lane, taken, round, mergeAccumulator, converge, stripes, consume8, consume4, consume1, consume, avalanche, xxh64}
 use Rattle.tlv.specs.Layout.{field}
-use Rattle.tlv.specs.Found.{headerRows, valueRows, lowest, headerOf, step}
+use Rattle.tlv.specs.Found.{headerRows, valueRows, headerOf, step}
 use Rattle.pack.specs.Reading as pack
-use Rattle.pack.specs.Reading.{packLimit}
 use Rattle.msgpack.specs.Formats.{formats, formatOf}
 use Rattle.msgpack.specs.Items.{headOf, passItems, passHead, passItem}
 use Rattle.msgpack.specs.Readers.{isWhole, contentAt, integerOf, readInteger, countAt}
@@ -19,6 +21,7 @@ use Rattle.msgpack.specs.Lookup.{keyAt, lastWhere, lastValue, under}
 use Rattle.value.specs.Fields.{readNatural, naturalUnder, bytesUnder, isThere}
 use Rattle.value.specs.Header.{part, alone, withMap, withList, header}
 use Rattle.value.specs.Reading as value
+use Rattle.value.specs.declared.Told.{Told}
 
 -- ---- what is asked of some bytes, and what is answered
 
@@ -26,18 +29,18 @@ pub data Question : Type 0 where
   as-pack : Question
   as-value : Question
 
-pub data Answer : Type 0 where
-  of-pack : pack.Reading → Answer
-  of-value : value.Answer → Answer
+pub data CaseAnswer : Type 0 where
+  of-pack : pack.Reading → CaseAnswer
+  of-value : refusals.Answer Told → CaseAnswer
 
-abbrev pub answer : Question → List ℕ → Answer
+abbrev pub answer : Question → List ℕ → CaseAnswer
 answer as-pack s = of-pack (pack.reading packLimit s)
 answer as-value s = of-value (value.reading packLimit s)
 
 pub record Case : Type 0 where
   pub bytes : List ℕ
   pub asked : Question
-  pub answered : Answer
+  pub answered : CaseAnswer
 
 -- ---- packs
 
@@ -72,7 +75,7 @@ valueSample =
     ∷ 0x76 ∷ 0x61 ∷ 0x6C ∷ 0x75 ∷ 0x65 ∷ 0x20 ∷ 0x31 ∷ 0x20 ∷ 0x64 ∷ 0x61 ∷ 0x74 ∷ 0x61
     ∷ []
 
-abbrev valueCase : List ℕ → value.Answer → Case
+abbrev valueCase : List ℕ → (refusals.Answer Told) → Case
 valueCase s a = record { bytes = s; asked = as-value; answered = of-value a }
 
 -- byte 91 so often, and 90: lists of one item, the last of none
@@ -98,17 +101,19 @@ cases =
     ∷ packRefused (set sample 31 0x15) 6 0
     ∷ packRefused (set sample 45 0x62) 8 0
     -- K, a value with both parts; L, its first 39 bytes
-    ∷ valueCase valueSample (value.told (record { version = 0; primary = part 12 16 0 false; present = true; secondary = part 28 12 0 false }))
-    ∷ valueCase (take 39 valueSample) (value.refused 12)
+    ∷ valueCase valueSample (refusals.result (record { version = 0; primary = part 12 16 0 false; present = true; secondary = part 28 12 0 false }))
+    ∷ valueCase (take 39 valueSample) (refusals.refused 12)
     -- M: the empty map, and the empty value
-    ∷ valueCase (0x80 ∷ []) (value.refused 11)
-    ∷ valueCase [] (value.refused 9)
+    ∷ valueCase (0x80 ∷ []) (refusals.refused 11)
+    ∷ valueCase [] (refusals.refused 9)
     -- N: lists of depth 16 and 17
-    ∷ valueCase (nested 15) (value.refused 11)
-    ∷ valueCase (nested 16) (value.refused 10)
+    ∷ valueCase (nested 15) (refusals.refused 11)
+    ∷ valueCase (nested 16) (refusals.refused 10)
     ∷ []
 
 pub cases-hold : map (λ (c : Case). answer (c .asked) (c .bytes)) cases ≡ map (λ (c : Case). c .answered) cases
-unfolding little big add mul rotl foldHigh lane taken round mergeAccumulator converge stripes consume8 consume4 consume1 consume avalanche xxh64 field headerRows valueRows lowest headerOf step pack.records pack.reading
-    passItem passHead passItems headOf isWhole contentAt integerOf readInteger countAt keyAt sameBytes lastWhere lastValue under formatOf formats numberAt holds readNatural naturalUnder bytesUnder isThere alone withMap withList header value.reading
+unfolding little big add mul rotl foldHigh lane taken round mergeAccumulator converge stripes consume8 consume4 consume1
+    consume avalanche xxh64 field headerRows valueRows lowest headerOf step pack.records pack.reading passItem passHead
+    passItems headOf isWhole contentAt integerOf readInteger countAt keyAt sameBytes lastWhere lastValue under formatOf
+    formats numberAt holds readNatural naturalUnder bytesUnder isThere alone withMap withList header value.reading
 cases-hold = refl

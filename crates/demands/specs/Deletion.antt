@@ -1,4 +1,5 @@
--- Demand 3, deletion, with the writer's call in it: on the front as long as the count returned, the lookup answers as on the front before without the versions of the identifier that is deleted.
+-- Demand 3, deletion, with the writer's call in it: on the front as long as the count returned, the lookup answers as on the front before
+-- without the versions of the identifier that is deleted.
 use Prim.Native.Nat.{ℕ, _^_, _≤_, _<_}
 use mathlib.Core.Bool.{true}
 use mathlib.Core.List.{List, _++_}
@@ -7,23 +8,25 @@ use mathlib.Core.Path.{_≡_, refl, sym, ap, subst, _∙_}
 use native.Mathlib.Omega.{arith}
 use lib.ListN.{length, take, length-append}
 use lib.Seq.{length-take-le, take-append-seam, drop-append-seam}
-use Rattle.endian.specs.Bytes.{AllBytes, take-bytes, drop-bytes}
-use Rattle.endian.specs.Places.{take-overwritten}
+use Rattle.slices.specs.Bytes.{AllBytes, take-bytes, drop-bytes}
+use Rattle.slices.specs.Overwriting.{take-overwritten}
+use Rattle.slices.specs.Logic.{absurd-numbers}
+use Rattle.refusals.specs.Answers as refusals
+use Rattle.refusals.specs.Answers.{refused, result, isResult}
 use Rattle.tlv.specs.Layout.{head, layout, length-layout}
-use Rattle.msgpack.specs.HeadLaws.{absurd-numbers}
-use Rattle.msgpack.specs.Writers.{textHead, mapHead}
+use Rattle.msgpack_heads.specs.Heads.{textHead, mapHead}
 use Rattle.identifier.specs.Identity.{Identity}
-use Rattle.primary.specs.Parts.{refused, read, bucketKey, objectKey, ulidKey, deleteIdKey}
+use Rattle.primary.specs.Parts.{bucketKey, objectKey, ulidKey, deleteIdKey}
 use Rattle.primary.specs.Parts as primary
-use Rattle.records.specs.Record.{versionDeleteTag, Contents, isRead, readRecord, ofVersionDelete}
+use Rattle.records.specs.Record.{versionDeleteTag, Contents, readRecord, ofVersionDelete}
 use Rattle.records_model.specs.Record.{RecordHeld, withHeld, is-held}
 use Rattle.records_model.specs.Written.{heldAlone}
 use Rattle.writer.specs.Values.{textItem, pair, partHeader, partValue, identityPairs, deletePart}
-use Rattle.writer.specs.Writing.{Item, block, version, versionDelete, deletion, tagOf, valueOf, itemBytes, admitted, count, written, bufferAfter}
-use Rattle.writer_model.specs.Encoded.{IdentityBytes}
-use Rattle.writer_model.specs.Meaning.{heldOf, AreBytes, item-reads}
-use Rattle.writer_model.specs.Calls.{recordFor}
-use Rattle.writer_model.specs.Refusals.{written-exactly}
+use Rattle.writer.specs.Writing.{Item, block, version, versionDelete, deletion, tagOf, valueOf, itemBytes, admitted, written, bufferAfter}
+use Rattle.writer_laws.specs.Encoded.{IdentityBytes}
+use Rattle.writer_laws.specs.Meaning.{heldOf, AreBytes, item-reads}
+use Rattle.writer_laws.specs.Calls.{recordFor}
+use Rattle.writer_laws.specs.Refusals.{written-exactly}
 use Rattle.current_version.specs.Current.{Answer, isName, lookup}
 use Rattle.current_version.specs.Packs.{ReadablePack, SameAnswer}
 use Rattle.current_version.specs.Bytes.{takenOutOf, taken-out, deletion-answers-as-taken-out}
@@ -31,8 +34,8 @@ use Rattle.demands.specs.ReadBack.{fits}
 
 -- ---- the identifier that a call deletes: the one that a part handed in reads as, or the one that was handed in
 
-abbrev pub namedBy : primary.Answer primary.VersionDelete → Option Identity
-namedBy (read v) = some (v .identifier)
+abbrev pub namedBy : refusals.Answer primary.VersionDelete → Option Identity
+namedBy (result v) = some (v .identifier)
 namedBy (refused n) = none
 
 abbrev pub deletedBy : Option Item → Option Identity
@@ -92,7 +95,7 @@ record Deletes (item : Item) : Type 0 where
   identifier : Identity
   is-deleted : deletedBy (some item) ≡ some identifier
   held : RecordHeld
-  is-held : heldOf item ≡ read held
+  is-held : heldOf item ≡ result held
   names : held .contents .identifier ≡ identifier
 
 deletes : (item : Item) → tagOf item ≡ versionDeleteTag → admitted item ≡ true → Deletes item
@@ -100,18 +103,24 @@ deletes (block i d) t a = absurd (omega arith)
 deletes (version p) t a = absurd (omega arith)
 deletes (versionDelete p) t a = by (primary.versionDelete p) refl a
   where
-    by : (r : primary.Answer primary.VersionDelete) → primary.versionDelete p ≡ r → isRead r ≡ true → Deletes (versionDelete p)
-    by (read v) e f = record { identifier = v .identifier; is-deleted = ap namedBy e; held = _; is-held = ap (λ r. withHeld (heldAlone p) (ofVersionDelete r)) e; names = refl }
+    by : (r : refusals.Answer primary.VersionDelete) → primary.versionDelete p ≡ r → isResult r ≡ true → Deletes (versionDelete p)
+    by (result v) e f = record {
+      identifier = v .identifier;
+      is-deleted = ap namedBy e;
+      held = _;
+      is-held = ap (λ r. withHeld (heldAlone p) (ofVersionDelete r)) e;
+      names = refl;
+    }
     by (refused n) e f = absurd-numbers (cc)
 deletes (deletion i u) t a = record { identifier = i; is-deleted = refl; held = _; is-held = refl; names = refl }
 
 -- ---- the theorem
 
-module _ (limit : ℕ) (small : limit < 2 ^ 32) (item : Item) (used n : ℕ) (buf : List ℕ) (wrote : written limit (length buf) used (some item) ≡ count n) where
+module _ (limit : ℕ) (small : limit < 2 ^ 32) (item : Item) (used n : ℕ) (buf : List ℕ) (wrote : written limit (length buf) used (some item) ≡ result n) where
   -- the record stands directly after the pack before, which is as long as was told
-  pub front : take n (bufferAfter limit used (some item) buf) ≡ take used buf ++ itemBytes item
+  pub record-appended : take n (bufferAfter limit used (some item) buf) ≡ take used buf ++ itemBytes item
   unfolding bufferAfter
-  front =
+  record-appended =
       let w = written-exactly limit (length buf) used item n .0 wrote in
       rw (wrote, ← w .3) (take-overwritten buf used (itemBytes item) (w .2))
 
@@ -119,23 +128,26 @@ module _ (limit : ℕ) (small : limit < 2 ^ 32) (item : Item) (used n : ℕ) (bu
   told-inside = let w = written-exactly limit (length buf) used item n .0 wrote in omega arith
 
   -- DELETION
-  pub deletion-takes-out : (bucket object : List ℕ) → tagOf item ≡ versionDeleteTag → AllBytes (bufferAfter limit used (some item) buf) → ReadablePack limit (take used buf) → isName bucket object ≡ true
+  pub deletion-takes-out : (bucket object : List ℕ) → tagOf item ≡ versionDeleteTag
+      → AllBytes (bufferAfter limit used (some item) buf) → ReadablePack limit (take used buf) → isName bucket object ≡ true
       → TakesOut limit (some item) (take used buf) bucket object (lookup limit (take n (bufferAfter limit used (some item) buf)) bucket object)
   unfolding layout
   deletion-takes-out bucket object tag all readable name =
       let w = written-exactly limit (length buf) used item n .0 wrote in
       let long = length-layout (recordFor item) in
       let total : length (take used buf ++ itemBytes item) ≤ limit = rw (length-append, length-take-le used buf told-inside) (w .1) in
-      let both : AllBytes (take used buf ++ itemBytes item) = subst AllBytes front (take-bytes n (bufferAfter limit used (some item) buf) all) in
+      let both : AllBytes (take used buf ++ itemBytes item) = subst AllBytes record-appended (take-bytes n (bufferAfter limit used (some item) buf) all) in
       let before = front-bytes (take used buf) (itemBytes item) both in
       let bytes = handed-bytes item tag (back-bytes (head (recordFor item)) (valueOf item) (back-bytes (take used buf) (itemBytes item) both)) in
       let d = deletes item tag (w .0) in
-      let h = is-held (valueOf item) (readRecord limit (tagOf item) (valueOf item)) (d .held) (item-reads limit small item bytes (w .0) (omega arith) ∙ d .is-held) in
+      let h = is-held (valueOf item) (readRecord limit (tagOf item) (valueOf item)) (d .held)
+      (item-reads limit small item bytes (w .0) (omega arith) ∙ d .is-held) in
       let names : h .found .contents .identifier ≡ d .identifier = ap (λ (c : Contents). c .identifier) (h .same-contents) ∙ d .names in
       record {
         identifier = d .identifier;
         is-deleted = d .is-deleted;
         left = taken-out limit (d .identifier) (take used buf) before readable;
-        same = rw (front, ← names)
-            (deletion-answers-as-taken-out limit (take used buf) (recordFor item) (h .found) bucket object before readable (fits limit small item bytes (w .0) (omega arith)) tag (ap (λ t. readRecord limit t (valueOf item)) (sym tag) ∙ h .is) total name);
+        same = rw (record-appended, ← names)
+            (deletion-answers-as-taken-out limit (take used buf) (recordFor item) (h .found) bucket object before readable
+            (fits limit small item bytes (w .0) (omega arith)) tag (ap (λ t. readRecord limit t (valueOf item)) (sym tag) ∙ h .is) total name);
       }

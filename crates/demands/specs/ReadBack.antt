@@ -7,21 +7,21 @@ use native.Mathlib.Nat.{zero-add}
 use native.Mathlib.Omega.{arith}
 use lib.ListN.{length, take, drop, length-append}
 use lib.Seq.{take-at, drop-at}
-use Rattle.endian.specs.Places.{overwritten}
+use Rattle.slices.specs.Overwriting.{overwritten}
+use Rattle.slices.specs.Logic.{absurd-numbers}
+use Rattle.refusals.specs.Answers.{Answer, refused, result, isResult}
 use Rattle.tlv.specs.Layout.{Fits, layouts, length-layout}
 use Rattle.pack.specs.declared.Entry.{Entry}
 use Rattle.pack.specs.Reading.{whole, reading}
 use Rattle.pack.specs.Acceptance.{AllFit, entryOf, entriesOf, layouts-accepted}
-use Rattle.msgpack.specs.HeadLaws.{absurd-numbers}
-use Rattle.primary.specs.Parts.{Answer, refused, read}
 use Rattle.primary.specs.Parts as primary
-use Rattle.records.specs.Record.{Record, there, readRecord, atPlace, recordAt, isRead, ofVersion, ofVersionDelete}
+use Rattle.records.specs.Record.{Record, there, readRecord, atPlace, recordAt, ofVersion, ofVersionDelete}
 use Rattle.records.specs.Laws.{tag-and-value}
 use Rattle.records_model.specs.Record.{RecordHeld, recordIn, withHeld, is-held}
 use Rattle.records_model.specs.Written.{heldAlone}
 use Rattle.writer.specs.Writing.{Item, block, version, versionDelete, deletion, tagOf, valueOf, itemBytes, admitted}
-use Rattle.writer_model.specs.Meaning.{heldOf, AreBytes, item-bytes, item-reads}
-use Rattle.writer_model.specs.Calls.{all-written, writeAll, AllAdmitted, recordFor, recordsOf, calls-write}
+use Rattle.writer_laws.specs.Meaning.{heldOf, AreBytes, item-bytes, item-reads}
+use Rattle.writer_laws.specs.Calls.{all-written, writeAll, AllAdmitted, recordFor, recordsOf, calls-write}
 
 abbrev pub AllBytesOf : List Item → Type 0
 AllBytesOf [] = Unit {0}
@@ -32,12 +32,13 @@ pub record Means (limit : ℕ) (s : List ℕ) (item : Item) (e : Entry) : Type 0
   pub tag : e .tag ≡ tagOf item
   pub found : Record
   pub there-is : recordAt limit s (e .start) ≡ there (valueOf item) found
-  pub holds : recordIn (valueOf item) (read found) ≡ heldOf item
+  pub holds : recordIn (valueOf item) (result found) ≡ heldOf item
 
 -- one entry for each item, in order
 pub data AllMean (limit : ℕ) (s : List ℕ) : List Item → List Entry → Type 0 where
   no-items : AllMean limit s [] []
-  next : {item : Item} {e : Entry} {items : List Item} {es : List Entry} → Means limit s item e → AllMean limit s items es → AllMean limit s (item ∷ items) (e ∷ es)
+  next : {item : Item} {e : Entry} {items : List Item} {es : List Entry} → Means limit s item e → AllMean limit s items es
+      → AllMean limit s (item ∷ items) (e ∷ es)
 
 pub record ReadsBack (limit : ℕ) (items : List Item) (buf : List ℕ) : Type 0 where
   pub count : ℕ
@@ -51,17 +52,17 @@ pub record ReadsBack (limit : ℕ) (items : List Item) (buf : List ℕ) : Type 0
 
 -- ---- each item by itself
 
-means : (item : Item) → admitted item ≡ true → (h : RecordHeld) × (heldOf item ≡ read h)
+means : (item : Item) → admitted item ≡ true → (h : RecordHeld) × (heldOf item ≡ result h)
 means (block i d) a = (_, refl)
 means (version p) a = by (primary.version p) a
   where
-    by : (r : Answer primary.Version) → isRead r ≡ true → (h : RecordHeld) × (withHeld (heldAlone p) (ofVersion r) ≡ read h)
-    by (read v) t = (_, refl)
+    by : (r : Answer primary.Version) → isResult r ≡ true → (h : RecordHeld) × (withHeld (heldAlone p) (ofVersion r) ≡ result h)
+    by (result v) t = (_, refl)
     by (refused n) t = absurd-numbers (cc)
 means (versionDelete p) a = by (primary.versionDelete p) a
   where
-    by : (r : Answer primary.VersionDelete) → isRead r ≡ true → (h : RecordHeld) × (withHeld (heldAlone p) (ofVersionDelete r) ≡ read h)
-    by (read v) t = (_, refl)
+    by : (r : Answer primary.VersionDelete) → isResult r ≡ true → (h : RecordHeld) × (withHeld (heldAlone p) (ofVersionDelete r) ≡ result h)
+    by (result v) t = (_, refl)
     by (refused n) t = absurd-numbers (cc)
 means (deletion i u) a = (_, refl)
 
@@ -85,7 +86,8 @@ module _ (limit : ℕ) (small : limit < 2 ^ 32) where
 
   -- ---- the records one after the other, behind any bytes
 
-  means-there : (item : Item) (front rest : List ℕ) → AreBytes item → admitted item ≡ true → length (front ++ (itemBytes item ++ rest)) ≤ limit → length (valueOf item) ≤ limit
+  means-there : (item : Item) (front rest : List ℕ) → AreBytes item → admitted item ≡ true
+      → length (front ++ (itemBytes item ++ rest)) ≤ limit → length (valueOf item) ≤ limit
       → Means limit (front ++ (itemBytes item ++ rest)) item (entryOf (length front) (recordFor item))
   means-there item front rest b a l m =
       let h = means item a in
@@ -104,7 +106,8 @@ module _ (limit : ℕ) (small : limit < 2 ^ 32) where
   all-mean [] front b a l = no-items
   all-mean (item ∷ items) front b a l =
       let rest : List ℕ = layouts (recordsOf items) in
-      let n : length (front ++ (itemBytes item ++ rest)) ≡ length front + (length (itemBytes item) + length rest) = length-append front (itemBytes item ++ rest) ∙ ap (λ k. length front + k) (length-append (itemBytes item) rest) in
+      let n : length (front ++ (itemBytes item ++ rest)) ≡ length front + (length (itemBytes item) + length rest)
+      = length-append front (itemBytes item ++ rest) ∙ ap (λ k. length front + k) (length-append (itemBytes item) rest) in
       let m = length-layout (recordFor item) in
       let grouped : (front ++ itemBytes item) ++ rest ≡ front ++ (itemBytes item ++ rest) = append-assoc front (itemBytes item) rest in
       let later : AllMean limit (front ++ (itemBytes item ++ rest)) items (entriesOf (length front + length (itemBytes item)) (recordsOf items))
@@ -117,7 +120,8 @@ module _ (limit : ℕ) (small : limit < 2 ^ 32) where
   unfolding overwritten
   front-written e buf = rw zero-add
 
-  pub reads-back : (items : List Item) (buf : List ℕ) → AllAdmitted items → AllBytesOf items → length (layouts (recordsOf items)) ≤ limit → length (layouts (recordsOf items)) ≤ length buf → ReadsBack limit items buf
+  pub reads-back : (items : List Item) (buf : List ℕ) → AllAdmitted items → AllBytesOf items
+      → length (layouts (recordsOf items)) ≤ limit → length (layouts (recordsOf items)) ≤ length buf → ReadsBack limit items buf
   reads-back items buf a b l m =
       let e : List ℕ = layouts (recordsOf items) in
       let n : ℕ = 0 + length e in

@@ -9,8 +9,9 @@ use native.Mathlib.Omega.{arith}
 use borrow.Author.Tests.{eqb-true, eqb-false, ne-eqb}
 use lib.Dec.{eqb}
 use lib.ListN.{length, take}
-use Rattle.tlv.specs.Found.{lowest}
-use Rattle.msgpack.specs.HeadLaws.{absurd-numbers}
+use Rattle.slices.specs.Logic.{absurd-numbers}
+use Rattle.refusals.specs.Sheet.{lowest}
+use Rattle.refusals.specs.Answers.{Answer, refused, result, orRefused, unless}
 use Rattle.msgpack.specs.Items.{Passage, whole, cut, tooDeep, passOver}
 use Rattle.identifier.specs.Ulid.{isUlid}
 use Rattle.identifier.specs.Identity.{Identity, isValid, identityOf}
@@ -18,9 +19,9 @@ use Rattle.value.specs.Header.{header}
 use Rattle.value.specs.Reading as value
 use Rattle.value.specs.declared.Told.{Told}
 use Rattle.primary.specs.Parts as primary
-use Rattle.primary.specs.Parts.{Answer, refused, read, orRefused, fills, textUnder, textsUnder, deletedUnder, deleteIdKey, valid, ulidOf, versionBy, versionDeleteBy}
+use Rattle.primary.specs.Parts.{fills, textUnder, textsUnder, deletedUnder, deleteIdKey, valid, ulidOf, versionBy, versionDeleteBy}
 use Rattle.primary.specs.Exactly.{version-names, delete-names}
-use Rattle.records.specs.Record.{versionTag, versionDeleteTag, isKnown, Contents, ofVersion, ofVersionDelete, contents, Record, toldRows, primaryIn, withTold, unless, byValue, readRecord, canBeRead}
+use Rattle.records.specs.Record.{versionTag, versionDeleteTag, isKnown, Contents, ofVersion, ofVersionDelete, contents, Record, toldRows, primaryIn, withTold, byValue, readRecord, canBeRead}
 use Rattle.records.specs.Laws.{ReadAs, read-as, can-be-read, the-record}
 use Rattle.current_version.specs.Current.{isLookedAt}
 
@@ -40,17 +41,19 @@ pub data Applies (limit tag : ℕ) (s : List ℕ) : ℕ → Type 0 where
   no-whole-item : passOver s ≡ cut → Applies limit tag s 9
   depth-17 : passOver s ≡ tooDeep → Applies limit tag s 10
   header-not-described : (n : ℕ) → passOver s ≡ whole n → header limit (take n s) ≡ none → Applies limit tag s 11
-  value-not-filled : (n : ℕ) (t : Told) → passOver s ≡ whole n → header limit (take n s) ≡ some t → (n + t .secondary .len ≡ length s → ⊥) → Applies limit tag s 12
-  version-not-0 : (t : Told) → value.reading limit s ≡ value.told t → (t .version ≡ 0 → ⊥) → Applies limit tag s 14
-  encrypted : (t : Told) → value.reading limit s ≡ value.told t → t .primary .encrypted ≡ true → Applies limit tag s 15
-  compressed : (t : Told) → value.reading limit s ≡ value.told t → (t .primary .compression ≡ 0 → ⊥) → Applies limit tag s 15
-  of-part : (t : Told) (n : ℕ) → value.reading limit s ≡ value.told t → PartApplies tag (primaryIn s t) n → Applies limit tag s n
+  value-not-filled : (n : ℕ) (t : Told) → passOver s ≡ whole n → header limit (take n s) ≡ some t
+      → (n + t .secondary .len ≡ length s → ⊥) → Applies limit tag s 12
+  version-not-0 : (t : Told) → value.reading limit s ≡ result t → (t .version ≡ 0 → ⊥) → Applies limit tag s 14
+  encrypted : (t : Told) → value.reading limit s ≡ result t → t .primary .encrypted ≡ true → Applies limit tag s 15
+  compressed : (t : Told) → value.reading limit s ≡ result t → (t .primary .compression ≡ 0 → ⊥) → Applies limit tag s 15
+  of-part : (t : Told) (n : ℕ) → value.reading limit s ≡ result t → PartApplies tag (primaryIn s t) n → Applies limit tag s n
 
 -- ---- a number that is given applies
 
 module _ {A B P : Type 0} where
   -- what follows a step, if it is not the step that refuses
-  step : (number n : ℕ) (o : Option A) (next : A → Answer B) → orRefused number o next ≡ refused n → (number ≡ n → o ≡ none → P) → ((a : A) → o ≡ some a → next a ≡ refused n → P) → P
+  step : (number n : ℕ) (o : Option A) (next : A → Answer B) → orRefused number o next ≡ refused n → (number ≡ n → o ≡ none → P)
+      → ((a : A) → o ≡ some a → next a ≡ refused n → P) → P
   step number n none next e here later = here (cc) refl
   step number n (some a) next e here later = later a refl e
 
@@ -124,51 +127,57 @@ part-refused tag part n looked e =
     (two-tags tag looked)
   where
     version-by : (a : Answer primary.Version) → ofVersion a ≡ refused n → a ≡ refused n
-    version-by (read v) f = absurd-numbers (cc)
+    version-by (result v) f = absurd-numbers (cc)
     version-by (refused m) f = cc
 
     delete-by : (a : Answer primary.VersionDelete) → ofVersionDelete a ≡ refused n → a ≡ refused n
-    delete-by (read v) f = absurd-numbers (cc)
+    delete-by (result v) f = absurd-numbers (cc)
     delete-by (refused m) f = cc
 
 module _ (limit tag : ℕ) (s : List ℕ) (n : ℕ) where
   abbrev Here : ℕ → Type 0
   Here m = Applies limit tag s m
 
-  value-refused : value.reading limit s ≡ value.refused n → Here n
+  value-refused : value.reading limit s ≡ refused n → Here n
   unfolding value.reading
   value-refused e = by (passOver s) refl e
     where
-      filling : (k : ℕ) (t : Told) → passOver s ≡ whole k → header limit (take k s) ≡ some t → (b : Bool) → eqb (k + t .secondary .len) (length s) ≡ b → cond b (value.told t) (value.refused 12) ≡ value.refused n → Here n
+      filling : (k : ℕ) (t : Told) → passOver s ≡ whole k → header limit (take k s) ≡ some t → (b : Bool)
+          → eqb (k + t .secondary .len) (length s) ≡ b → cond b (result t) (refused 12) ≡ refused n → Here n
       filling k t p h true q f = absurd-numbers (cc)
       filling k t p h false q f = subst Here (cc) (value-not-filled k t p h (eqb-false _ _ q))
 
-      described : (k : ℕ) → passOver s ≡ whole k → (o : Option Told) → header limit (take k s) ≡ o → value.filled k s o ≡ value.refused n → Here n
+      described : (k : ℕ) → passOver s ≡ whole k → (o : Option Told) → header limit (take k s) ≡ o → value.filled k s o ≡ refused n → Here n
       described k p (some t) h f = filling k t p h (eqb (k + t .secondary .len) (length s)) refl f
       described k p none h f = subst Here (cc) (header-not-described k p h)
 
-      by : (p : Passage) → passOver s ≡ p → value.byItem limit s p ≡ value.refused n → Here n
+      by : (p : Passage) → passOver s ≡ p → value.byItem limit s p ≡ refused n → Here n
       by (whole k) p f = described k p (header limit (take k s)) refl f
       by cut p f = subst Here (cc) (no-whole-item p)
       by tooDeep p f = subst Here (cc) (depth-17 p)
 
-  told-refused : (t : Told) → isLookedAt tag ≡ true → isKnown tag ≡ true → value.reading limit s ≡ value.told t → unless (lowest (toldRows tag t)) (withTold t (contents tag (primaryIn s t))) ≡ refused n → Here n
+  told-refused : (t : Told) → isLookedAt tag ≡ true → isKnown tag ≡ true → value.reading limit s ≡ result t
+      → unless (lowest (toldRows tag t)) (withTold t (contents tag (primaryIn s t))) ≡ refused n → Here n
   unfolding toldRows lowest
   told-refused t looked known w e = version-test (eqb (t .version) 0) refl (rw known at e)
     where
       part-test : (a : Answer Contents) → contents tag (primaryIn s t) ≡ a → withTold t a ≡ refused n → Here n
-      part-test (read c) p f = absurd-numbers (cc)
+      part-test (result c) p f = absurd-numbers (cc)
       part-test (refused m) p f = of-part t n w (part-refused tag (primaryIn s t) n looked (cc))
 
-      compression-test : (b : Bool) → eqb (t .primary .compression) 0 ≡ b → unless (cond (not b) (some 15) none) (withTold t (contents tag (primaryIn s t))) ≡ refused n → Here n
+      compression-test : (b : Bool) → eqb (t .primary .compression) 0 ≡ b
+          → unless (cond (not b) (some 15) none) (withTold t (contents tag (primaryIn s t))) ≡ refused n → Here n
       compression-test true p f = part-test (contents tag (primaryIn s t)) refl f
       compression-test false p f = subst Here (cc) (compressed t w (eqb-false _ _ p))
 
-      encryption-test : (b : Bool) → t .primary .encrypted ≡ b → unless (cond (b || not (eqb (t .primary .compression) 0)) (some 15) none) (withTold t (contents tag (primaryIn s t))) ≡ refused n → Here n
+      encryption-test : (b : Bool) → t .primary .encrypted ≡ b
+          → unless (cond (b || not (eqb (t .primary .compression) 0)) (some 15) none) (withTold t (contents tag (primaryIn s t))) ≡ refused n → Here n
       encryption-test false p f = compression-test (eqb (t .primary .compression) 0) refl f
       encryption-test true p f = subst Here (cc) (encrypted t w p)
 
-      version-test : (b : Bool) → eqb (t .version) 0 ≡ b → unless (cond (not b) (some 14) (cond (t .primary .encrypted || not (eqb (t .primary .compression) 0)) (some 15) none)) (withTold t (contents tag (primaryIn s t))) ≡ refused n → Here n
+      version-test : (b : Bool) → eqb (t .version) 0 ≡ b → unless
+          (cond (not b) (some 14) (cond (t .primary .encrypted || not (eqb (t .primary .compression) 0)) (some 15) none))
+          (withTold t (contents tag (primaryIn s t))) ≡ refused n → Here n
       version-test true p f = encryption-test (t .primary .encrypted) refl f
       version-test false p f = subst Here (cc) (version-not-0 t w (eqb-false _ _ p))
 
@@ -180,13 +189,13 @@ pub number-applies : (limit tag : ℕ) (s : List ℕ) (n : ℕ) → isLookedAt t
 unfolding readRecord
 number-applies limit tag s n looked e = by (value.reading limit s) refl e
   where
-    by : (a : value.Answer) → value.reading limit s ≡ a → byValue tag s a ≡ refused n → Applies limit tag s n
-    by (value.told t) w f = told-refused limit tag s n t looked (known-tag tag looked) w f
-    by (value.refused m) w f = value-refused limit tag s n (cc)
+    by : (a : Answer Told) → value.reading limit s ≡ a → byValue tag s a ≡ refused n → Applies limit tag s n
+    by (result t) w f = told-refused limit tag s n t looked (known-tag tag looked) w f
+    by (refused m) w f = value-refused limit tag s n (cc)
 
 -- ---- to a record that is read none applies
 
-version-read : (tag : ℕ) (part : List ℕ) (v : primary.Version) {n : ℕ} → tag ≡ versionTag → primary.version part ≡ read v → PartApplies tag part n → ⊥
+version-read : (tag : ℕ) (part : List ℕ) (v : primary.Version) {n : ℕ} → tag ≡ versionTag → primary.version part ≡ result v → PartApplies tag part n → ⊥
 version-read tag part v is e (part-not-filled w) = let h = version-names part v e in absurd-numbers (cc)
 version-read tag part v is e (no-identifier t) = let h = version-names part v e in absurd-numbers (cc)
 version-read tag part v is e (no-boolean k d) = let h = version-names part v e in absurd-numbers (cc)
@@ -194,7 +203,8 @@ version-read tag part v is e (no-delete-identifier k t) = omega arith
 version-read tag part v is e (identifier-breaks-rules i t r) = let h = version-names part v e in absurd-numbers (cc)
 version-read tag part v is e (delete-identifier-breaks-rules k t q r) = omega arith
 
-delete-read : (tag : ℕ) (part : List ℕ) (v : primary.VersionDelete) {n : ℕ} → tag ≡ versionDeleteTag → primary.versionDelete part ≡ read v → PartApplies tag part n → ⊥
+delete-read : (tag : ℕ) (part : List ℕ) (v : primary.VersionDelete) {n : ℕ} → tag ≡ versionDeleteTag
+    → primary.versionDelete part ≡ result v → PartApplies tag part n → ⊥
 delete-read tag part v is e (part-not-filled w) = let h = delete-names part v e in absurd-numbers (cc)
 delete-read tag part v is e (no-identifier t) = let h = delete-names part v e in absurd-numbers (cc)
 delete-read tag part v is e (no-boolean k d) = omega arith
@@ -202,22 +212,22 @@ delete-read tag part v is e (no-delete-identifier k t) = let h = delete-names pa
 delete-read tag part v is e (identifier-breaks-rules i t r) = let h = delete-names part v e in absurd-numbers (cc)
 delete-read tag part v is e (delete-identifier-breaks-rules k t q r) = let h = delete-names part v e in absurd-numbers (cc)
 
-part-read : (tag : ℕ) (part : List ℕ) (c : Contents) (n : ℕ) → isLookedAt tag ≡ true → contents tag part ≡ read c → PartApplies tag part n → ⊥
+part-read : (tag : ℕ) (part : List ℕ) (c : Contents) (n : ℕ) → isLookedAt tag ≡ true → contents tag part ≡ result c → PartApplies tag part n → ⊥
 part-read tag part c n looked e a =
     ⊎-elim
     (λ is. version-by is (primary.version part) refl (sym (of-version part) ∙ ap (λ t. contents t part) (sym is) ∙ e))
     (λ is. delete-by is (primary.versionDelete part) refl (sym (of-delete part) ∙ ap (λ t. contents t part) (sym is) ∙ e))
     (two-tags tag looked)
   where
-    version-by : tag ≡ versionTag → (r : Answer primary.Version) → primary.version part ≡ r → ofVersion r ≡ read c → ⊥
-    version-by is (read v) p f = version-read tag part v is p a
+    version-by : tag ≡ versionTag → (r : Answer primary.Version) → primary.version part ≡ r → ofVersion r ≡ result c → ⊥
+    version-by is (result v) p f = version-read tag part v is p a
     version-by is (refused m) p f = absurd-numbers (cc)
 
-    delete-by : tag ≡ versionDeleteTag → (r : Answer primary.VersionDelete) → primary.versionDelete part ≡ r → ofVersionDelete r ≡ read c → ⊥
-    delete-by is (read v) p f = delete-read tag part v is p a
+    delete-by : tag ≡ versionDeleteTag → (r : Answer primary.VersionDelete) → primary.versionDelete part ≡ r → ofVersionDelete r ≡ result c → ⊥
+    delete-by is (result v) p f = delete-read tag part v is p a
     delete-by is (refused m) p f = absurd-numbers (cc)
 
-same-told : {a : value.Answer} {t u : Told} → a ≡ value.told t → a ≡ value.told u → t ≡ u
+same-told : {a : Answer Told} {t u : Told} → a ≡ result t → a ≡ result u → t ≡ u
 same-told e f = cc
 
 none-applies : (limit tag : ℕ) (s : List ℕ) (r : Record) {n : ℕ} → isLookedAt tag ≡ true → ReadAs limit tag s r → Applies limit tag s n → ⊥

@@ -41,7 +41,8 @@ pub fn delete_then_look_up(
     bucket: &[u8],
     object: &[u8],
 ) -> Deletion
-    ensures { λ r. ⌜ DeletionHolds used (some (versionDelete (now (part .entry)))) (now (buf .entry)) (now (bucket .entry)) (now (object .entry)) r (now (buf .exit)) ⌝ }
+    ensures { λ r. ⌜ DeletionHolds used (some (versionDelete (now (part .entry)))) (now (buf .entry)) (now (bucket .entry))
+        (now (object .entry)) r (now (buf .exit)) ⌝ }
 {
     let written = writer::write_delete(buf, used, part);
     look_up(buf, written, bucket, object)
@@ -56,7 +57,8 @@ pub fn delete_version_then_look_up(
     bucket: &[u8],
     object: &[u8],
 ) -> Deletion
-    ensures { λ r. ⌜ DeletionHolds used (ofIdentity (λ i. deletion i (now (deleteid .entry))) (named id)) (now (buf .entry)) (now (bucket .entry)) (now (object .entry)) r (now (buf .exit)) ⌝ }
+    ensures { λ r. ⌜ DeletionHolds used (ofIdentity (λ i. deletion i (now (deleteid .entry))) (named id)) (now (buf .entry))
+        (now (bucket .entry)) (now (object .entry)) r (now (buf .exit)) ⌝ }
 {
     let written = writer::write_delete_of(buf, used, id, deleteid);
     look_up(buf, written, bucket, object)

@@ -7,7 +7,7 @@ use native.Mathlib.Omega.{arith}
 use lib.Arith.{mod-mul}
 use lib.Dec.{lit<}
 use lib.ListN.{length, length-reverse}
-use Rattle.endian.specs.Bytes.{AllBytes, none-bytes, tail-bytes, cons-bytes, reverse-bytes}
+use Rattle.slices.specs.Bytes.{AllBytes, none-bytes, tail-bytes, cons-bytes, reverse-bytes}
 
 -- the number of a list of bytes, least significant byte first
 unfoldable pub little : List ℕ → ℕ

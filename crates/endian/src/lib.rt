@@ -1,12 +1,10 @@
-// Numbers as bytes, big- and little-endian, of up to 8 bytes at a place of a slice; and bytes as they
-// are.
+// Numbers as bytes, big- and little-endian, of up to 8 bytes at a place of a slice.
 ghost use mathlib.Core.Path.{_≡_};
 ghost use Prim.Native.Nat.{_+_, _≤_, _<_};
-ghost use lib.Dec.{leb};
 ghost use lib.ListN.{length, getD, take, drop};
-ghost use Rattle.endian.specs.Bytes.{sameBytes};
-ghost use Rattle.endian.specs.Numbers.{little, big};
-ghost use Rattle.endian.specs.Places.{holds, numberAt, placed, writtenAt, overwritten, writtenBytes, numberOf};
+ghost use Rattle.slices.specs.Overwriting.{overwritten};
+ghost use Rattle.endian.specs.Numbers.{little, big, bigBytes};
+ghost use Rattle.endian.specs.Places.{holds, numberAt, writtenAt, numberOf};
 
 // What a read finds: the number, or that no number of that width stands there, since the slice
 // ends before it or the width is above 8.
@@ -23,7 +21,10 @@ fn holds(len: usize, at: usize, width: usize) -> bool
     if 8 < width {
         return false;
     }
-    lies(len, at, width)
+    if len < width {
+        return false;
+    }
+    at <= len - width
 }
 
 fn byte(s: &[u8], i: usize) -> u64
@@ -85,7 +86,7 @@ pub fn read_little(s: &[u8], at: usize, width: usize) -> Number
 // The width bytes of n take the place of those from at on, most significant first.
 fn place(out: &mut [u8], at: usize, width: usize, n: u64)
     requires { ⌜ at + width ≤ length (now out) ⌝ }
-    ensures { λ _. ⌜ now (out .exit) ≡ placed (now (out .entry)) at width n ⌝ }
+    ensures { λ _. ⌜ now (out .exit) ≡ overwritten (now (out .entry)) at (bigBytes width n) ⌝ }
 {
     let mut rest = n;
     let mut left = width;
@@ -108,55 +109,4 @@ pub fn write_big(out: &mut [u8], at: usize, width: usize, n: u64) -> bool
     } else {
         false
     }
-}
-
-// Whether so many bytes, from at on, lie within len bytes.
-fn lies(len: usize, at: usize, count: usize) -> bool
-    ensures { λ r. ⌜ r ≡ leb (at + count) len ⌝ }
-{
-    if len < count {
-        return false;
-    }
-    at <= len - count
-}
-
-fn copy(out: &mut [u8], at: usize, text: &[u8])
-    requires { ⌜ at + length (now text) ≤ length (now out) ⌝ }
-    ensures { λ _. ⌜ now (out .exit) ≡ overwritten (now (out .entry)) at (now (text .entry)) ⌝ }
-{
-    let mut i = 0;
-    while i < text.len() {
-        out[at + i] = text[i];
-        i += 1;
-    }
-}
-
-// Answers whether the bytes were written; where they were not, nothing was.
-pub fn write_bytes(out: &mut [u8], at: usize, text: &[u8]) -> bool
-    ensures { λ r. ⌜ r ≡ leb (at + length (now (text .entry))) (length (now (out .entry))) ⌝ }
-    ensures { λ _. ⌜ now (out .exit) ≡ writtenBytes (now (out .entry)) at (now (text .entry)) ⌝ }
-{
-    if lies(out.len(), at, text.len()) {
-        copy(out, at, text);
-        true
-    } else {
-        false
-    }
-}
-
-// Whether two slices have the same bytes.
-pub fn same_bytes(a: &[u8], b: &[u8]) -> bool
-    ensures { λ r. ⌜ r ≡ sameBytes (now (a .entry)) (now (b .entry)) ⌝ }
-{
-    if a.len() != b.len() {
-        return false;
-    }
-    let mut i: usize = 0;
-    while i < a.len() {
-        if a[i] != b[i] {
-            return false;
-        }
-        i += 1;
-    }
-    true
 }

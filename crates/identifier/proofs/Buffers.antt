@@ -5,7 +5,7 @@ use mathlib.Core.List.{List, [], _∷_, _++_, append-assoc}
 use native.Mathlib.Omega.{arith}
 use lib.ListN.{length, getD, take, drop, set, length-append}
 use lib.Seq.{drop-cons, set-at, length-take-le}
-use Rattle.endian.specs.Places.{overwritten, overwritten-more}
+use Rattle.slices.specs.Overwriting.{overwritten, overwritten-more}
 use Rattle.identifier.specs.Identity.{slash, identity}
 use Rattle.identifier.specs.Composite.{colon, compositeText}
 

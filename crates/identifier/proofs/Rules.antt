@@ -9,7 +9,8 @@ use borrow.Author.Tests.{eq-eqb, ne-eqb, le-leb, lt-leb}
 use lib.Dec.{eqb, leb}
 use lib.ListN.{length, getD, take, drop, length-drop, List·getD-eq-default}
 use lib.Seq.{take-all, drop-drop}
-use Rattle.identifier.specs.Texts.{member, before, before-take, before-none, before-member, before-length, part-all}
+use Rattle.slices.specs.Lists.{part-to-end}
+use Rattle.identifier.specs.Texts.{member, before, before-take, before-none, before-member, before-length}
 use Rattle.identifier.specs.Identity.{slash, sized, isBucket, identity, isValid}
 use Rattle.identifier.specs.Composite.{colon, isComposite, bucketIn, objectIn, slashIn, composite}
 
@@ -57,7 +58,7 @@ module _ (t : List ℕ) where
   module _ (n : ℕ) (is : n ≡ length (before slash (take (length t - 27) (drop 27 t)))) where
     bucket-length : n ≡ length (bucketIn t)
     unfolding bucketIn
-    bucket-length = is ∙ ap (λ s. length (before slash s)) (part-all 27 t)
+    bucket-length = is ∙ ap (λ s. length (before slash s)) (part-to-end 27 t)
 
     -- the place of the slash is no further than the end
     pub counted : n ≤ length t - 27
@@ -82,5 +83,5 @@ module _ (t : List ℕ) where
         let m : 27 + n + 1 ≡ 27 + (length (before slash (drop 27 t)) + 1) = omega (arith, bucket-length) in
         let o : drop (27 + n + 1) t ≡ drop (length (before slash (drop 27 t)) + 1) (drop 27 t) = ap (λ l. drop l t) m ∙ sym (drop-drop (length (before slash (drop 27 t)) + 1) 27 t) in
         let f : isValid (identity (take 26 t) (take (27 + n - 27) (drop 27 t)) (take (length t - (27 + n + 1)) (drop (27 + n + 1) t))) ≡ isValid (identity (take 26 t) (before slash (drop 27 t)) (drop (length (before slash (drop 27 t)) + 1) (drop 27 t)))
-        = rw (part-all (27 + n + 1) t, o, k, before-take slash (drop 27 t)) in
+        = rw (part-to-end (27 + n + 1) t, o, k, before-take slash (drop 27 t)) in
         rw (sym w, e, f, eq-eqb (getD t 26 0) colon x, bucket-length)

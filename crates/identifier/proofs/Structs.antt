@@ -10,8 +10,8 @@ use borrow.Author.Tests.{le-leb, lt-leb}
 use lib.Dec.{leb}
 use lib.ListN.{length, take, drop, replicate, length-replicate}
 use lib.Seq.{take-length}
-use Rattle.endian.specs.Bytes.{sameBytes}
-use Rattle.endian.specs.Places.{overwritten}
+use Rattle.slices.specs.Bytes.{sameBytes}
+use Rattle.slices.specs.Overwriting.{overwritten}
 use Rattle.identifier.specs.Identity.{Identity, identity, sameIdentity}
 use Rattle.identifier.specs.Held.{named, same, sameFronts, hasName, padded, held, zeros}
 use Rattle.identifier.specs.declared.Identifier.{Identifier}

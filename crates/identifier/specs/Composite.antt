@@ -10,7 +10,8 @@ use borrow.Author.Tests.{eqb-true}
 use lib.Dec.{eqb}
 use lib.ListN.{length, getD, take, drop, length-append, length-drop, take-append-drop}
 use lib.Seq.{take-at, getD-at, drop-append-add, drop-drop, drop-cons}
-use Rattle.identifier.specs.Texts.{member, before, both, before-take, before-split, before-append}
+use Rattle.slices.specs.Logic.{both}
+use Rattle.identifier.specs.Texts.{member, before, before-take, before-split, before-append}
 use Rattle.identifier.specs.Identity.{slash, Identity, identity, isValid, identityOf, sizes, no-slash}
 use Rattle.identifier.specs.declared.Split.{Split}
 use Rattle.identifier.specs.declared.Split.the-variants.{Slash, Malformed}
@@ -61,7 +62,8 @@ composite-most i v = omega (arith, composite-length i v, sizes i v)
 
 -- ---- the two shapes agree
 
--- Three texts joined and read, or taken each by itself, give the same identifier or both give none. (Of a ULID of another length, or a bucket with a slash, the joined text does not show where it was joined.)
+-- Three texts joined and read, or taken each by itself, give the same identifier or both give none. (Of a ULID of another length, or a
+-- bucket with a slash, the joined text does not show where it was joined.)
 module _ (u b o : List ℕ) (whole : length u ≡ 26) (plain : member slash b ≡ false) where
   abbrev text : List ℕ
   text = compositeText (identity u b o)

@@ -8,7 +8,7 @@ use lib.Dec.{leb}
 use lib.ListN.{length, take, replicate}
 use lib.Seq.{take-append-seam}
 use borrow.Author.Tests.{le-leb}
-use Rattle.endian.specs.Bytes.{sameBytes}
+use Rattle.slices.specs.Bytes.{sameBytes}
 use Rattle.identifier.specs.Identity.{Identity, identity, isValid, sameIdentity, Sizes, sameIdentity-refl, sameIdentity-true}
 use Rattle.identifier.specs.declared.Identifier.{Identifier}
 use Rattle.identifier.specs.declared.Reading.{Reading}
@@ -46,7 +46,13 @@ padded n s = s ++ replicate (n - length s) 0
 
 -- the struct that holds an identifier
 unfoldable pub held : Identity → Identifier
-held i = record { ulid = i .ulid; bucket = padded 63 (i .bucket); bucketlen = length (i .bucket); object = padded 1024 (i .object); objectlen = length (i .object) }
+held i = record {
+  ulid = i .ulid;
+  bucket = padded 63 (i .bucket);
+  bucketlen = length (i .bucket);
+  object = padded 1024 (i .object);
+  objectlen = length (i .object);
+}
 
 -- the struct that holds none: zeros
 unfoldable pub zeros : Identifier
@@ -62,7 +68,13 @@ answered (some i) = record { valid = true; id = held i }
 pub named-held : (i : Identity) → Sizes i → named (held i) ≡ some i
 unfolding named held padded
 named-held i s =
-    rw (le-leb (length (i .bucket)) 63 (s .bucketmost), le-leb (length (i .object)) 1024 (s .objectmost), take-append-seam (i .bucket), take-append-seam (i .object))
+    rw (
+      le-leb (length (i .bucket)) 63 (s .bucketmost),
+      le-leb (length (i .object)) 1024 (s .objectmost),
+      take-append-seam
+          (i .bucket),
+      take-append-seam (i .object),
+    )
 
 -- ---- structs that compare the same name the same
 

@@ -7,8 +7,9 @@ use mathlib.Core.Option.{Option, none, some}
 use borrow.Author.Tests.{leb-true, not-true}
 use lib.Dec.{leb}
 use lib.ListN.{length}
-use Rattle.endian.specs.Bytes.{sameBytes, same-bytes-refl, same-bytes-equal}
-use Rattle.identifier.specs.Texts.{member, both}
+use Rattle.slices.specs.Bytes.{sameBytes, same-bytes-refl, same-bytes-equal}
+use Rattle.slices.specs.Logic.{both}
+use Rattle.identifier.specs.Texts.{member}
 use Rattle.identifier.specs.Ulid.{isUlid, ulid-length}
 
 -- the byte `/`

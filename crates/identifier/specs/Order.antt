@@ -7,7 +7,8 @@ use mathlib.Core.Logic.{_⊎_, inl, inr, ⊎-elim}
 use native.Mathlib.Omega.{arith}
 use borrow.Author.Tests.{eqb-true, eqb-false, eq-eqb, ne-eqb, ltb-true, ltb-false, lt-ltb}
 use lib.Dec.{eqb, ltb}
-use Rattle.identifier.specs.Texts.{less, clash, not-so}
+use Rattle.slices.specs.Logic.{clash, not-so}
+use Rattle.identifier.specs.Texts.{less}
 
 pub less-irreflexive : (s : List ℕ) → less s s ≡ false
 unfolding less
@@ -62,7 +63,8 @@ less-total [] (y ∷ t) = inl refl
 less-total (x ∷ s) [] = inr (inr refl)
 less-total (x ∷ s) (y ∷ t) = heads (eqb x y) (ltb x y) refl refl (less-total s t)
   where
-    heads : (b d : Bool) → eqb x y ≡ b → ltb x y ≡ d → (less s t ≡ true) ⊎ (s ≡ t) ⊎ (less t s ≡ true) → (less (x ∷ s) (y ∷ t) ≡ true) ⊎ (x ∷ s ≡ y ∷ t) ⊎ (less (y ∷ t) (x ∷ s) ≡ true)
+    heads : (b d : Bool) → eqb x y ≡ b → ltb x y ≡ d → (less s t ≡ true) ⊎ (s ≡ t) ⊎ (less t s ≡ true)
+        → (less (x ∷ s) (y ∷ t) ≡ true) ⊎ (x ∷ s ≡ y ∷ t) ⊎ (less (y ∷ t) (x ∷ s) ≡ true)
     heads true d e f r =
         ⊎-elim (λ h. inl (less-rest x y s t (eqb-true x y e) h))
         (⊎-elim (λ h. inr (inl (ap (λ z. z ∷ s) (eqb-true x y e) ∙ ap (λ l. y ∷ l) h))) (λ h. inr (inr (less-rest y x t s (sym (eqb-true x y e)) h))))
@@ -82,4 +84,6 @@ pub neither-less : (s t : List ℕ) → less s t ≡ false → less t s ≡ fals
 neither-less s t p q = ⊎-elim (λ h. clash h p) (⊎-elim (λ e. e) (λ h. clash h q)) (less-total s t)
 
 pub not-less-transitive : (s t u : List ℕ) → less s t ≡ false → less t u ≡ false → less s u ≡ false
-not-less-transitive s t u p q = ⊎-elim (λ h. clash h p) (⊎-elim (λ e. subst (λ x. less x u ≡ false) (sym e) q) (λ h. not-so (less s u) (λ k. clash (less-transitive t s u h k) q))) (less-total s t)
+not-less-transitive s t u p q =
+    ⊎-elim (λ h. clash h p) (⊎-elim (λ e. subst (λ x. less x u ≡ false) (sym e) q) (λ h. not-so (less s u) (λ k. clash (less-transitive t s u h k) q)))
+    (less-total s t)

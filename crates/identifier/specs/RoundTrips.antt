@@ -7,7 +7,7 @@ use mathlib.Core.Option.{Option, none, some}
 use native.Mathlib.Omega.{arith}
 use borrow.Author.Tests.{leb-true}
 use lib.ListN.{length, take, drop}
-use Rattle.endian.specs.Places.{overwritten, overwritten-there}
+use Rattle.slices.specs.Overwriting.{overwritten, overwritten-there}
 use Rattle.identifier.specs.Identity.{Identity, isValid, sizes}
 use Rattle.identifier.specs.Composite.{identityIn, compositeText, reads-text, text-reads}
 use Rattle.identifier.specs.Held.{named, isAdmitted, answered, named-held}
@@ -40,7 +40,8 @@ written-back i out at n true false v h e = let z : _≡_ {A = ℕ} 0 1 = cc in a
 written-back i out at n false room v h e = let z : _≡_ {A = ℕ} 0 1 = cc in absurd (omega arith)
 
 -- a struct that was written reads, from the bytes written, as what it names
-pub written-reads : (s : Identifier) (out : List ℕ) (at n : ℕ) → outcome (named s) out at ≡ wrote n → identityIn (take n (drop at (left (named s) out at))) ≡ named s
+pub written-reads : (s : Identifier) (out : List ℕ) (at n : ℕ) → outcome (named s) out at ≡ wrote n
+    → identityIn (take n (drop at (left (named s) out at))) ≡ named s
 unfolding outcome left
 written-reads s out at n e = go (named s) e
   where

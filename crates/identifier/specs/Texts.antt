@@ -1,15 +1,13 @@
 -- Texts as lists of bytes: a byte looked for, two texts compared.
 use Prim.Native.Nat.{ℕ, suc, _+_, _-_, _<_, _≤_, suc-le-suc}
-use mathlib.Core.Path.{_≡_, refl, sym, ap, _∙_}
+use mathlib.Core.Path.{_≡_, refl, ap}
 use mathlib.Core.Bool.{Bool, true, false, cond, _&&_, _||_, true≢false}
 use mathlib.Core.List.{List, [], _∷_, _++_}
-use mathlib.Core.Logic.{_⊎_, inl, inr}
 use native.Mathlib.Nat.{le-refl, not-suc-le-zero, le-of-suc-le-suc}
 use native.Mathlib.Omega.{arith}
 use borrow.Author.Tests.{eqb-true, eq-eqb}
 use lib.Dec.{eqb, ltb}
-use lib.ListN.{length, take, drop, length-drop}
-use lib.Seq.{take-all}
+use lib.ListN.{length, take, drop}
 
 -- x stands in the text
 unfoldable pub member : ℕ → List ℕ → Bool
@@ -32,28 +30,6 @@ less [] [] = false
 less [] (y ∷ t) = true
 less (x ∷ s) [] = false
 less (x ∷ s) (y ∷ t) = cond (eqb x y) (less s t) (ltb x y)
-
--- ---- tests
-
-pub either : (t : Bool) → (t ≡ true) ⊎ (t ≡ false)
-either true = inl refl
-either false = inr refl
-
-pub clash : {C : Type 0} {t : Bool} → t ≡ true → t ≡ false → C
-clash p q = absurd (true≢false (sym p ∙ q))
-
-pub not-so : (t : Bool) → (t ≡ true → ⊥) → t ≡ false
-not-so true h = absurd (h refl)
-not-so false h = refl
-
-pub both : (a b : Bool) → (a && b) ≡ true → (a ≡ true) × (b ≡ true)
-both true b e = (refl, e)
-both false b e = absurd (true≢false (sym e))
-
--- ---- the rest of a text, as the part to its end that a slice gives
-
-pub part-all : (a : ℕ) (s : List ℕ) → take (length s - a) (drop a s) ≡ drop a s
-part-all a s = let h : length (drop a s) ≤ length s - a = omega (arith, length-drop a s) in take-all (length s - a) (drop a s) h
 
 -- ---- the first x of a text
 

@@ -7,7 +7,7 @@ use mathlib.Core.Option.{Option, none, some}
 use borrow.Author.Tests.{le-leb, lt-leb}
 use lib.Dec.{leb}
 use lib.ListN.{length}
-use Rattle.endian.specs.Places.{overwritten}
+use Rattle.slices.specs.Overwriting.{overwritten}
 use Rattle.identifier.specs.Identity.{Identity, isValid}
 use Rattle.identifier.specs.Composite.{compositeText}
 use Rattle.identifier.specs.Held.{isAdmitted}

@@ -4,7 +4,7 @@ ghost use mathlib.Core.Path.{_≡_};
 ghost use mathlib.Core.Option.{some};
 ghost use Prim.Native.Nat.{_+_, _≤_};
 ghost use lib.ListN.{length};
-ghost use Rattle.endian.specs.Places.{overwritten};
+ghost use Rattle.slices.specs.Overwriting.{overwritten};
 ghost use Rattle.identifier.specs.Texts.{before, less};
 ghost use Rattle.identifier.specs.Ulid.{isCharacter, isUlid};
 ghost use Rattle.identifier.specs.Identity.{slash, isBucket, isObject, identity, isValid, identityOf};
@@ -167,7 +167,7 @@ fn put(out: &mut [u8], at: usize, s: &[u8])
     requires { ⌜ at + length (now s) ≤ length (now out) ⌝ }
     ensures { λ _. ⌜ now (out .exit) ≡ overwritten (now (out .entry)) at (now (s .entry)) ⌝ }
 {
-    let _ = endian::write_bytes(out, at, s);
+    let _ = slices::write_bytes(out, at, s);
 }
 
 // A function of its own, so that no proof above it shows the zeros.
@@ -246,14 +246,14 @@ fn same_fronts(a: &[u8], n: usize, b: &[u8], k: usize) -> bool
     if b.len() < k {
         return false;
     }
-    endian::same_bytes(&a[..n], &b[..k])
+    slices::same_bytes(&a[..n], &b[..k])
 }
 
 // Whether the two name the same identifier. The arrays are lent and not copied.
 pub fn same_identifier(a: Identifier, b: Identifier) -> bool
     ensures { λ r. ⌜ r ≡ same (named a) (named b) ⌝ }
 {
-    if !endian::same_bytes(&a.ulid, &b.ulid) {
+    if !slices::same_bytes(&a.ulid, &b.ulid) {
         return false;
     }
     let n = a.bucketlen;
@@ -299,7 +299,8 @@ pub fn is_admitted(id: Identifier) -> bool
 // Puts the composite text over the bytes from a place on.
 fn put_composite(out: &mut [u8], at: usize, ulid: &[u8], bucket: &[u8], object: &[u8])
     requires { ⌜ (length (now ulid) ≡ 26) × (at + (28 + length (now bucket) + length (now object)) ≤ length (now out)) ⌝ }
-    ensures { λ _. ⌜ now (out .exit) ≡ overwritten (now (out .entry)) at (compositeText (identity (now (ulid .entry)) (now (bucket .entry)) (now (object .entry)))) ⌝ }
+    ensures { λ _. ⌜ now (out .exit) ≡ overwritten (now (out .entry)) at
+        (compositeText (identity (now (ulid .entry)) (now (bucket .entry)) (now (object .entry)))) ⌝ }
 {
     let colon = at + 26;
     let slash = at + 27 + bucket.len();

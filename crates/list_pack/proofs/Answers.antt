@@ -8,14 +8,14 @@ use borrow.Author.Tests.{leb-true, le-leb}
 use lib.Dec.{leb}
 use lib.ListN.{length, take, drop, length-replicate, length-append}
 use lib.Seq.{take-at}
-use Rattle.endian.specs.Bytes.{AllBytes}
+use Rattle.slices.specs.Bytes.{AllBytes}
+use Rattle.refusals.specs.Limit.{packLimit}
 use Rattle.pack.specs.declared.Entry.{Entry}
-use Rattle.pack.specs.Reading.{Reading, Ending, whole, refused, Outcome, counted, alone, reading, packLimit}
-use Rattle.pack.specs.Scan.{scanned, listAfter}
+use Rattle.pack.specs.Reading.{Reading, Ending, whole, refused, Outcome, counted, alone, reading}
+use Rattle.pack.specs.Scan.{noEntry, scanned, listAfter}
 use Rattle.pack.specs.Acceptance.{Fills, accepted-fills}
 use Rattle.list_pack.specs.Listing.{noEntries}
 use Rattle.list_pack.specs.Put.{Put, put-then}
-use Rattle.list_pack.proofs.Lines.{noEntry}
 use Rattle.list_pack.specs.Text.{lines, countLine, refusalLine, text, count-length, refusal-length}
 
 -- ---- the answers are told apart

@@ -5,6 +5,7 @@ use mathlib.Core.Path.{_≡_, refl, sym, subst, _∙_}
 use native.Mathlib.Omega.{arith}
 use lib.ListN.{length, getD, take, length-append}
 use Rattle.pack.specs.declared.Entry.{Entry}
+use Rattle.pack.specs.Scan.{noEntry}
 use Rattle.list_pack.specs.Put.{Put, put-none, put-length, put-then}
 use Rattle.list_pack.specs.Text.{decimal, hex4, space, newline, recordsWord, refusedWord, atWord, line, lines, countLine, refusalLine, decimal-length, line-length, lines-more}
 
@@ -44,9 +45,6 @@ module _ {s0 s1 s2 s3 : List ℕ} {at m1 m2 m3 : ℕ} where
           put-then (omega arith) (put-then (omega arith) (put-then (omega arith) (put-then (omega arith) (put-then (omega arith) p q) r) t) u) v
 
 -- ---- one line more
-
-abbrev pub noEntry : Entry
-noEntry = record { start = 0; tag = 0; length = 0 }
 
 pub record Lines (s0 : List ℕ) (es : List Entry) (i : ℕ) (s : List ℕ) (at : ℕ) : Type 0 where
   pub same : length s ≡ length s0

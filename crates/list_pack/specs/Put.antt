@@ -4,7 +4,7 @@ use mathlib.Core.List.{List, [], _++_}
 use mathlib.Core.Path.{_≡_, refl, ap, _∙_}
 use native.Mathlib.Omega.{arith}
 use lib.ListN.{length, length-append}
-use Rattle.endian.specs.Places.{overwritten, length-overwritten, overwritten-more}
+use Rattle.slices.specs.Overwriting.{overwritten, length-overwritten, overwritten-more}
 
 -- t stands at the place `at` of what the buffer held, and `next` is the place after it
 pub record Put (old : List ℕ) (at : ℕ) (t : List ℕ) (new : List ℕ) (next : ℕ) : Type 0 where
@@ -15,7 +15,8 @@ pub put-length : {old : List ℕ} {at : ℕ} {t new : List ℕ} {next : ℕ} →
 put-length {old} {at} {t} h p = ap length (p .bytes) ∙ length-overwritten old at t h
 
 -- one text after the other
-pub put-then : {old : List ℕ} {at : ℕ} {t mid : List ℕ} {m : ℕ} {u new : List ℕ} {n : ℕ} → at + length t + length u ≤ length old → Put old at t mid m → Put mid m u new n → Put old at (t ++ u) new n
+pub put-then : {old : List ℕ} {at : ℕ} {t mid : List ℕ} {m : ℕ} {u new : List ℕ} {n : ℕ} → at + length t + length u ≤ length old
+    → Put old at t mid m → Put mid m u new n → Put old at (t ++ u) new n
 put-then {old} {at} {t} {mid} {m} {u} h p q = record {
   place = rw length-append (omega (arith, p .place, q .place));
   bytes = q .bytes ∙ (λ i. overwritten (p .bytes i) (p .place i) u) ∙ overwritten-more old at t u h;

@@ -10,9 +10,9 @@ use borrow.Author.Tests.{lt-ltb, le-ltb, leb-true, leb-false}
 use native.Mathlib.Numerals.{add-one}
 use lib.ListN.{length, getD, take, length-append}
 use lib.Seq.{take-suc}
-use Rattle.io.specs.Digits.{digits, glyph, Fewest}
 use Rattle.pack.specs.declared.Entry.{Entry}
 use Rattle.pack.specs.Reading.{Reading, Ending, whole, refused}
+use Rattle.io.specs.Digits.{digits, glyph, Fewest}
 
 -- a number in decimal, with no leading zero; it has at most 20 digits
 unfoldable pub decimalOf : ℕ → ℕ → List ℕ
@@ -101,7 +101,8 @@ fewest-decimal (suc (suc k)) (suc j) n h f =
     let more : 10 ^ k * 10 ≤ n = rw pow-suc at least in
     let most : n < 10 ^ suc k * 10 = rw (pow-suc 10 (suc k)) at (f .1) in
     let one : 1 ≤ 10 ^ k = one-le-pow k 10 (lit< tt) in
-    let rest : digits 10 (suc k) (n / 10) ≡ decimalOf j (n / 10) = fewest-decimal (suc k) j (n / 10) (omega arith) (omega arith, omega arith, λ l. fewest-before k n l least) in
+    let rest : digits 10 (suc k) (n / 10) ≡ decimalOf j (n / 10)
+    = fewest-decimal (suc k) j (n / 10) (omega arith) (omega arith, omega arith, λ l. fewest-before k n l least) in
     rw (le-ltb n 10 (omega arith), rest)
 fewest-decimal (suc k) zero n h f = absurd (omega arith)
 

@@ -2,10 +2,11 @@
 ghost use mathlib.Core.Path.{_≡_};
 ghost use Prim.Native.Nat.{_+_, _≤_};
 ghost use lib.ListN.{length, take};
+ghost use Rattle.refusals.specs.Limit.{packLimit};
+ghost use Rattle.pack.specs.Reading.{reading};
+ghost use Rattle.pack.specs.Scan.{scannedOf, scanned, listAfter};
 ghost use Rattle.list_pack.specs.Put.{Put};
 ghost use Rattle.list_pack.specs.Text.{decimal, hex4, line, lines, countLine, refusalLine, text};
-ghost use Rattle.pack.specs.Reading.{reading, packLimit};
-ghost use Rattle.pack.specs.Scan.{scannedOf, scanned, listAfter};
 ghost use Rattle.list_pack.specs.Listing.{noEntries, Fits};
 use libc::STDERR_FILENO;
 use libc::STDIN_FILENO;
@@ -19,7 +20,7 @@ fn put(out: &mut [u8], at: usize, text: &[u8]) -> usize
     requires { ⌜ at + length (now text) ≤ length (now out) ⌝ }
     ensures { λ r. ⌜ Put (now (out .entry)) at (now (text .entry)) (now (out .exit)) r ⌝ }
 {
-    endian::write_bytes(out, at, text);
+    slices::write_bytes(out, at, text);
     at + text.len()
 }
 

@@ -1,8 +1,8 @@
 mod Places
-mod Parts
-mod Visiting
-mod Naming
-mod Offering
-mod Walking
-mod Searching
-mod Answering
+mod Roles
+mod Visits
+mod Comparisons
+mod Candidates
+mod Passes
+mod Searches
+mod Refusals

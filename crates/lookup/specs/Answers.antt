@@ -6,10 +6,11 @@ use mathlib.Core.Option.{Option, none, some}
 use mathlib.Core.Path.{_≡_}
 use lib.Dec.{eqb}
 use lib.ListN.{length, take, drop}
+use Rattle.slices.specs.Places.{shiftPlace}
+use Rattle.refusals.specs.Limit.{packLimit}
 use Rattle.tlv.specs.Found as tlv
-use Rattle.pack.specs.Reading.{Ending, whole, refused, packLimit}
+use Rattle.pack.specs.Reading.{Ending, whole, refused}
 use Rattle.primary.specs.Answers.{textsIn, AllInside}
-use Rattle.primary.specs.declared.Text.{Text}
 use Rattle.primary.specs.declared.Texts.{Texts}
 use Rattle.records.specs.Answers as records
 use Rattle.records.specs.declared.Kind as records-kind
@@ -32,11 +33,8 @@ use Rattle.lookup.specs.declared.Found.the-variants as found-answer
 
 -- ---- from places of a part to places of the pack
 
-abbrev pub shiftText : ℕ → Text → Text
-shiftText by t = record { start = by + t .start; len = t .len }
-
 abbrev pub shiftTexts : ℕ → Texts → Texts
-shiftTexts by t = record { ulid = shiftText by (t .ulid); bucket = shiftText by (t .bucket); object = shiftText by (t .object) }
+shiftTexts by t = record { ulid = shiftPlace by (t .ulid); bucket = shiftPlace by (t .bucket); object = shiftPlace by (t .object) }
 
 -- all of them end within n bytes
 pub record AllFrom (by : ℕ) (t : Texts) (n : ℕ) : Type 0 where

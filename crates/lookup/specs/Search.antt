@@ -9,17 +9,18 @@ use native.Mathlib.Omega.{arith}
 use borrow.Author.Tests.{lt-ltb, ltb-true, eqb-true, ne-eqb, not-true}
 use lib.Dec.{eqb, ltb}
 use lib.ListN.{length, drop}
+use Rattle.slices.specs.Logic.{either, clash, not-so, both}
 use Rattle.pack.specs.Reading.{records}
-use Rattle.identifier.specs.Texts.{member, all, less, either, clash, not-so, both}
+use Rattle.identifier.specs.Texts.{member, all, less}
 use Rattle.identifier.specs.Order.{less-irreflexive, less-transitive}
 use Rattle.identifier.specs.Ulid.{alphabet, isCharacter, isUlid}
 use Rattle.identifier.specs.Identity.{Identity, isBucket, isObject, isValid}
 use Rattle.identifier.specs.Held.{hasName}
 use Rattle.current_version.specs.Current.{Placed, valueOf, placed, Version, versionOf, filtered, best, isDeleted, isLive, current}
 use Rattle.current_version.specs.Roles.{version-told, version-role}
-use Rattle.lookup.specs.Walk.{placedFrom}
 use Rattle.current_version.specs.Best.{ulidOf, Passes, Best, best-member, best-greatest, best-same, best-none, best-found, found-best, none-best}
 use Rattle.current_version.specs.Exactly.{same-name, has-name}
+use Rattle.lookup.specs.Walk.{placedFrom}
 
 -- below a bound: of the versions of this name, deleted or not, the best; and the current one
 unfoldable pub isBelow : List ℕ → List ℕ → List ℕ → Identity → Bool
@@ -44,7 +45,8 @@ unfolding all member
 all-member test [] x a m = absurd (true≢false (sym m))
 all-member test (y ∷ l) x a m = go (eqb y x) refl m (both (test y) (all test l) a) (all-member test l x)
   where
-    go : (t : Bool) → eqb y x ≡ t → (t || member x l) ≡ true → (test y ≡ true) × (all test l ≡ true) → (all test l ≡ true → member x l ≡ true → test x ≡ true) → test x ≡ true
+    go : (t : Bool) → eqb y x ≡ t → (t || member x l) ≡ true → (test y ≡ true) × (all test l ≡ true)
+        → (all test l ≡ true → member x l ≡ true → test x ≡ true) → test x ≡ true
     go true e n h rest = subst (λ z. test z ≡ true) (eqb-true y x e) (h .0)
     go false e n h rest = rest (h .1) n
 
@@ -72,7 +74,8 @@ walk-ulids limit s at p v m e =
     let o = Memᴰ·of-map (placed limit s) (records at 0 (drop at s) .entries) m in
     let r = version-told limit (o .0 .start) (o .0 .tag) (valueOf s (o .0)) v (ap versionOf (o .2) ∙ e) in
     let rules = version-role limit (o .0 .tag) (valueOf s (o .0)) (v .identifier) (v .deleteFlag) r .rules in
-    both (isUlid (ulidOf v)) (isBucket (v .identifier .bucket)) (both (isUlid (ulidOf v) && isBucket (v .identifier .bucket)) (isObject (v .identifier .object)) rules .0) .0
+    both (isUlid (ulidOf v)) (isBucket (v .identifier .bucket))
+    (both (isUlid (ulidOf v) && isBucket (v .identifier .bucket)) (isObject (v .identifier .object)) rules .0) .0
 
 pub search-start : (ps : List Placed) (bucket object : List ℕ) → AllUlids ps → current ps bucket object ≡ currentBelow ps bucket object firstBound
 unfolding current currentBelow isLiveBelow
@@ -108,7 +111,8 @@ module _ (test wider : Identity → Bool) (narrower : (i : Identity) → test i 
   no-more [] = omega arith
   no-more (p ∷ ps) = omega (arith, no-more-here (versionOf p), no-more ps)
 
-  fewer : (ps : List Placed) (p : Placed) (v : Version) → List·Memᴰ p ps → Passes wider (versionOf p) v → test (v .identifier) ≡ false → howMany test ps < howMany wider ps
+  fewer : (ps : List Placed) (p : Placed) (v : Version) → List·Memᴰ p ps → Passes wider (versionOf p) v
+      → test (v .identifier) ≡ false → howMany test ps < howMany wider ps
   unfolding howMany filtered
   fewer [] p v m o e = absurd (List·Memᴰ·not-nil m)
   fewer (q ∷ ps) p v m o e = ⊎-elim here (λ n. omega (arith, no-more-here (versionOf q), fewer ps p v n o e)) (List·Memᴰ·cases-cons m)
@@ -152,7 +156,8 @@ module _ (ps : List Placed) (bucket object bound : List ℕ) where
 
   pub search-nothing : greatestBelow ps bucket object bound ≡ none → currentBelow ps bucket object bound ≡ none
   unfolding greatestBelow currentBelow
-  search-nothing e = none-best (liveBelow bound) ps (λ p v m o. best-none below ps e p v m (record { is = o .is; test-passed = live-below (v .identifier) (o .test-passed) }))
+  search-nothing e = none-best (liveBelow bound) ps
+      (λ p v m o. best-none below ps e p v m (record { is = o .is; test-passed = live-below (v .identifier) (o .test-passed) }))
 
   below-live : (i : Identity) → below i ≡ true → isDeleted ps i ≡ false → liveBelow bound i ≡ true
   unfolding isLiveBelow isLive isBelow
@@ -184,9 +189,11 @@ module _ (ps : List Placed) (bucket object bound : List ℕ) where
     -- where one does, the current version is below it
     pub search-deleted : isDeleted ps (c .identifier) ≡ true → currentBelow ps bucket object bound ≡ currentBelow ps bucket object (ulidOf c)
     unfolding currentBelow isLiveBelow isBelow
-    search-deleted gone = best-same (liveBelow bound) (liveBelow (ulidOf c)) ps (λ p v m e. same-test (liveBelow bound (v .identifier)) (liveBelow (ulidOf c) (v .identifier)) (down p v m e) (up v))
+    search-deleted gone = best-same (liveBelow bound) (liveBelow (ulidOf c)) ps
+        (λ p v m e. same-test (liveBelow bound (v .identifier)) (liveBelow (ulidOf c) (v .identifier)) (down p v m e) (up v))
       where
-        down : (p : Placed) (v : Version) → List·Memᴰ p ps → versionOf p ≡ some v → liveBelow bound (v .identifier) ≡ true → liveBelow (ulidOf c) (v .identifier) ≡ true
+        down : (p : Placed) (v : Version) → List·Memᴰ p ps → versionOf p ≡ some v → liveBelow bound (v .identifier) ≡ true
+            → liveBelow (ulidOf c) (v .identifier) ≡ true
         down p v m e l =
             let b = live-below (v .identifier) l in
             let least = best-greatest below greatest p v m (record { is = e; test-passed = b }) in

@@ -5,12 +5,12 @@ use mathlib.Core.List.{List, [], _∷_, map}
 use mathlib.Core.Path.{_≡_, refl, sym, ap, _∙_}
 use native.Mathlib.Omega.{arith}
 use lib.ListN.{length, drop, length-drop}
+use Rattle.slices.specs.Logic.{absurd-numbers}
 use Rattle.tlv.specs.Found.{Found, end, found, fault, step, step-none, step-end}
 use Rattle.tlv.specs.Stands.{step-stands}
 use Rattle.tlv.specs.Passing.{passAt, pass-found}
 use Rattle.pack.specs.Reading.{Reading, whole, refused, records, reading, records-end, records-fault, records-on}
 use Rattle.pack.specs.Acceptance.{accepted-reading}
-use Rattle.msgpack.specs.HeadLaws.{absurd-numbers}
 use Rattle.records.specs.Record.{valueAt}
 use Rattle.current_version.specs.Current.{Placed, placedBy, placed, answerIn, isName, lookup}
 
@@ -26,7 +26,8 @@ module _ (limit : ℕ) (s : List ℕ) where
   pub walk-start : reading limit s .ending ≡ whole → Checked s 0
   walk-start e = ap (λ (r : Reading). r .ending) (sym (accepted-reading limit s e)) ∙ e
 
-  pub lookup-walks : (bucket object : List ℕ) → isName bucket object ≡ true → reading limit s .ending ≡ whole → lookup limit s bucket object ≡ answerIn (placedFrom limit s 0) bucket object
+  pub lookup-walks : (bucket object : List ℕ) → isName bucket object ≡ true → reading limit s .ending ≡ whole
+      → lookup limit s bucket object ≡ answerIn (placedFrom limit s 0) bucket object
   unfolding lookup placedFrom
   lookup-walks bucket object name e = rw (name, e, accepted-reading limit s e)
 
@@ -42,7 +43,8 @@ module _ (limit : ℕ) (s : List ℕ) where
     pub next-is : passAt s at .next ≡ at + 32 + passAt s at .header .length
     pub next-inside : passAt s at .next ≤ length s
     pub next-checked : Checked s (passAt s at .next)
-    pub first : placedFrom limit s at ≡ placedBy limit at (passAt s at .header .tag) (valueAt s at (passAt s at .header)) ∷ placedFrom limit s (passAt s at .next)
+    pub first : placedFrom limit s at ≡ placedBy limit at (passAt s at .header .tag)
+        (valueAt s at (passAt s at .header)) ∷ placedFrom limit s (passAt s at .next)
 
   pub walk-on : (at : ℕ) → Checked s at → at < length s → Walked at
   unfolding placedFrom

@@ -9,7 +9,7 @@ use libc::STDIN_FILENO;
 use libc::STDOUT_FILENO;
 use lookup::Found;
 use lookup::Version;
-use primary::Text;
+use slices::Place;
 
 // ---- what is found, printed
 
@@ -36,11 +36,11 @@ fn say_name(bucket: &[u8], object: &[u8]) {
 
 fn say_version(pack: &[u8], v: Version) {
     let texts = v.identifier;
-    say(lookup::text(pack, texts.ulid));
+    say(slices::part(pack, texts.ulid));
     say(b" ");
     say_name(
-        lookup::text(pack, texts.bucket),
-        lookup::text(pack, texts.object),
+        slices::part(pack, texts.bucket),
+        slices::part(pack, texts.object),
     );
     if v.deleted {
         say(b" delete marker at ");
@@ -77,10 +77,10 @@ fn say_line(title: &[u8], pack: &[u8], bucket: &[u8], object: &[u8]) {
 // ---- the cases
 
 // The field at a place; an empty one at 0, where none is whole.
-fn field(s: &[u8], at: usize) -> Text
+fn field(s: &[u8], at: usize) -> Place
     ensures { λ r. ⌜ r .start + r .len ≤ length (now (s .entry)) ⌝ }
 {
-    let none = Text { start: 0, len: 0 };
+    let none = Place { start: 0, len: 0 };
     if s.len() < at {
         return none;
     }
@@ -95,7 +95,7 @@ fn field(s: &[u8], at: usize) -> Text
     if s.len() - start < len {
         return none;
     }
-    Text { start, len }
+    Place { start, len }
 }
 
 fn names(title: &[u8], pack: &[u8], s: &[u8]) {
@@ -106,8 +106,8 @@ fn names(title: &[u8], pack: &[u8], s: &[u8]) {
         say_line(
             title,
             pack,
-            lookup::text(s, bucket),
-            lookup::text(s, object),
+            slices::part(s, bucket),
+            slices::part(s, object),
         );
         let next = object.start + object.len;
         if next <= at {
@@ -122,9 +122,9 @@ fn say_case(s: &[u8]) {
     let pack = field(s, title.start + title.len);
     let list = field(s, pack.start + pack.len);
     names(
-        lookup::text(s, title),
-        lookup::text(s, pack),
-        lookup::text(s, list),
+        slices::part(s, title),
+        slices::part(s, pack),
+        slices::part(s, list),
     );
 }
 

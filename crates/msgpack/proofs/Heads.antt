@@ -1,34 +1,20 @@
 -- What head_of knows: the head of a list by its first byte's format, and how large it can be.
-use Prim.Native.Nat.{ℕ, _+_, _-_, _^_, _≤_, _<_}
-use mathlib.Core.Bool.{Bool, true, false}
+use Prim.Native.Nat.{ℕ, _+_, _^_, _≤_, _<_}
 use mathlib.Core.List.{List, [], _∷_}
 use mathlib.Core.Option.{none, some}
-use mathlib.Core.Path.{_≡_, refl, sym, _∙_}
+use mathlib.Core.Path.{_≡_, refl}
 use native.Mathlib.Nat.{not-suc-le-zero, pow-le-pow-right, lt-of-lt-of-le}
 use native.Mathlib.Omega.{arith}
-use borrow.Author.Tests.{le-leb, lt-leb, leb-true, leb-false}
-use lib.Dec.{leb, lit<}
+use lib.Dec.{lit<}
 use lib.ListN.{length, getD, take, drop, length-drop}
-use lib.Seq.{take-all, length-take-le}
-use Rattle.endian.specs.Bytes.{AllBytes, take-bytes, drop-bytes}
+use lib.Seq.{length-take-le}
+use Rattle.slices.specs.Bytes.{AllBytes, take-bytes, drop-bytes}
 use Rattle.endian.specs.Numbers.{big, big-lt}
 use Rattle.endian.specs.Places.{numberAt}
 use Rattle.msgpack.specs.Formats.{kindOf, widthOf, amountOf, formatOf}
 use Rattle.msgpack.specs.declared.Format.{Format}
 use Rattle.msgpack.specs.Items.{head, noHead, headBy, headOf, HeadAt}
 use Rattle.msgpack.specs.HeadLaws.{NumberRead, number-read, Narrow, narrow}
-
--- a test that adds, by one that subtracts
-pub leb-shift : (a b c : ℕ) → a ≤ c → leb b (c - a) ≡ leb (a + b) c
-leb-shift a b c h = go (leb (a + b) c) refl
-  where
-    go : (t : Bool) → leb (a + b) c ≡ t → leb b (c - a) ≡ leb (a + b) c
-    go true e = le-leb b (c - a) (omega (arith, leb-true (a + b) c e)) ∙ sym e
-    go false e = lt-leb b (c - a) (omega (arith, leb-false (a + b) c e)) ∙ sym e
-
--- the part of s from k to its end
-pub part-to-end : (k : ℕ) (s : List ℕ) → take (length s - k) (drop k s) ≡ drop k s
-part-to-end k s = take-all (length s - k) (drop k s) (omega (arith, length-drop k s))
 
 pub no-bytes : (s : List ℕ) → length s ≡ 0 → HeadAt s noHead
 unfolding headOf

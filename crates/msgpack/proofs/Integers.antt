@@ -9,14 +9,14 @@ use borrow.Author.Tests.{leb-true, eq-eqb}
 use lib.Dec.{leb, eqb}
 use lib.ListN.{length, getD, take, drop, length-drop}
 use lib.Seq.{length-take-le}
-use Rattle.endian.specs.Bytes.{AllBytes, take-bytes, drop-bytes}
+use Rattle.slices.specs.Bytes.{AllBytes, take-bytes, drop-bytes}
+use Rattle.slices.specs.Tables.{agree}
 use Rattle.endian.specs.Numbers.{little, big, big-lt}
 use Rattle.endian.specs.Places.{numberAt}
 use Rattle.msgpack.specs.Formats.{integerKind, kindOf, widthOf, amountOf, formats, formatOf}
 use Rattle.msgpack.specs.Items.{headBy, headOf}
 use Rattle.msgpack.specs.Readers.{half}
 use Rattle.msgpack.specs.HeadLaws.{NumberRead, number-read}
-use Rattle.msgpack.specs.Tables.{agree}
 
 -- an integer's format counts no bytes but its own, 8 at most
 integer-format : (b : ℕ) → b < 256 → kindOf (formatOf b) ≡ integerKind → widthOf (formatOf b) * 9 + amountOf (formatOf b) ≤ 8

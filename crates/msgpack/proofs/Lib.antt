@@ -1,5 +1,4 @@
 mod Heads
-mod Passing
+mod Passages
 mod Integers
-mod Writing
-mod Finding
+mod LastValues

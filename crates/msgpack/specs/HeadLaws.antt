@@ -4,16 +4,13 @@ use mathlib.Core.Bool.{Bool, true, false, cond}
 use mathlib.Core.List.{List}
 use mathlib.Core.Option.{none, some}
 use mathlib.Core.Path.{_≡_, refl}
-use native.Mathlib.Omega.{arith}
 use borrow.Author.Tests.{leb-true}
 use lib.Dec.{leb}
 use lib.ListN.{length, take, drop}
+use Rattle.slices.specs.Logic.{absurd-numbers}
+use Rattle.slices.specs.Tables.{agree}
 use Rattle.endian.specs.Places.{holds, numberAt, Within, holds-within}
 use Rattle.msgpack.specs.Formats.{widthOf, amountOf, formats, formatOf}
-use Rattle.msgpack.specs.Tables.{agree}
-
-pub absurd-numbers : {A : Type 0} → _≡_ {A = ℕ} 0 1 → A
-absurd-numbers z = absurd (omega arith)
 
 -- ---- a number that was read
 

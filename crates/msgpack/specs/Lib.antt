@@ -2,8 +2,6 @@ pub mod Formats
 pub mod Items
 pub mod Readers
 pub mod Lookup
-pub mod Writers
-pub mod Tables
 pub mod HeadLaws
 pub mod PassingLaws
 pub mod ReaderLaws

@@ -5,7 +5,7 @@ use mathlib.Core.List.{List}
 use mathlib.Core.Option.{Option, none, some}
 use lib.Dec.{eqb}
 use lib.ListN.{drop}
-use Rattle.endian.specs.Bytes.{sameBytes}
+use Rattle.slices.specs.Bytes.{sameBytes}
 use Rattle.msgpack.specs.Formats.{mapKind}
 use Rattle.msgpack.specs.Items.{Passage, whole, cut, tooDeep, headOf, passItem, depthAllowed}
 use Rattle.msgpack.specs.Readers.{Part, content, readText}
@@ -21,31 +21,34 @@ unfoldable pub keyAt : List ℕ → List ℕ → Bool
 keyAt key s = contentIs key s (readText s)
 
 -- where a value stands
-pub data Place : Type 0 where
-  found : ℕ → Place
-  missing : Place
-  broken : Place  -- no whole map is there
+pub data ValuePlace : Type 0 where
+  found : ℕ → ValuePlace
+  missing : ValuePlace
+  broken : ValuePlace  -- no whole map is there
 
-abbrev pub placeOf : Found → Place
+abbrev pub placeOf : Found → ValuePlace
 placeOf (found-answer.At n) = found n
 placeOf found-answer.Missing = missing
 placeOf found-answer.Broken = broken
 
-abbrev pub ifWhole : Passage → (ℕ → Place) → Place
+abbrev pub ifWhole : Passage → (ℕ → ValuePlace) → ValuePlace
 ifWhole (whole n) next = next n
 ifWhole cut next = broken
 ifWhole tooDeep next = broken
 
--- of so many pairs at the front of s, which begins at `from` of the whole list, the place of the last value whose key passes the test; `best` where there is none
-unfoldable pub lastWhere : (List ℕ → Passage) → (List ℕ → Bool) → ℕ → ℕ → List ℕ → Place → Place
-lastWhere item test zero from s best = best
-lastWhere item test (suc count) from s best =
-    ifWhole (item s) λ k.
-    ifWhole (item (drop k s)) λ m.
-    lastWhere item test count (from + k + m) (drop (k + m) s) (cond (test s) (found (from + k)) best)
+-- pairs of items: `item` passes over one, and `test` is asked of a key
+module _ (item : List ℕ → Passage) (test : List ℕ → Bool) where
+  -- of `count` pairs at the front of s, which begins at `from` of the whole list, the place of the last value whose key passes the
+  -- test; `best` where there is none
+  unfoldable pub lastWhere : (count from : ℕ) (s : List ℕ) (best : ValuePlace) → ValuePlace
+  lastWhere zero from s best = best
+  lastWhere (suc count) from s best =
+      ifWhole (item s) λ k.
+      ifWhole (item (drop k s)) λ m.
+      lastWhere count (from + k + m) (drop (k + m) s) (cond (test s) (found (from + k)) best)
 
 -- the last value of the text `key` in the map at the front
-unfoldable pub lastValue : List ℕ → List ℕ → Place
+unfoldable pub lastValue : List ℕ → List ℕ → ValuePlace
 lastValue key s =
     cond (eqb (headOf s .kind) mapKind)
     (lastWhere (passItem depthAllowed) (keyAt key) (headOf s .count) (headOf s .size) (drop (headOf s .size) s) missing)
@@ -54,7 +57,7 @@ lastValue key s =
 -- ---- what stands under a key
 
 -- by where the last value of a key stands: `read` tells what is there; `absent` is told where the map has no such key; none where there is no map
-abbrev pub atPlace : {A : Type 0} → Option A → (ℕ → Option A) → Place → Option A
+abbrev pub atPlace : {A : Type 0} → Option A → (ℕ → Option A) → ValuePlace → Option A
 atPlace absent read (found p) = read p
 atPlace absent read missing = absent
 atPlace absent read broken = none

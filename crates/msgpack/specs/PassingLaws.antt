@@ -8,11 +8,12 @@ use native.Mathlib.Omega.{arith}
 use borrow.Author.Tests.{le-leb, lt-leb, eq-eqb, ne-eqb, leb-true, leb-false, eqb-false}
 use lib.Dec.{leb, eqb}
 use lib.ListN.{length, drop, length-drop}
+use Rattle.slices.specs.Logic.{absurd-numbers}
 use Rattle.endian.specs.Numbers.{big}
 use Rattle.endian.specs.Places.{numberAt}
 use Rattle.msgpack.specs.Formats.{unusedKind, arrayKind, widthOf, formatOf}
 use Rattle.msgpack.specs.Items.{Head, Passage, whole, cut, tooDeep, headBy, headOf, itemsOf, beyond, andThen, passItems, passHead, passItem}
-use Rattle.msgpack.specs.HeadLaws.{absurd-numbers, number-read}
+use Rattle.msgpack.specs.HeadLaws.{number-read}
 
 -- ---- the head lies within the list
 
@@ -103,16 +104,19 @@ module _ (inside : ℕ → List ℕ → Passage) (h : Head) (s : List ℕ) where
   unfolding passHead
   head-whole n p = by-kind (leb arrayKind (h .kind)) refl p
     where
-      by-size : (t : Bool) → leb (h .size + h .count) (length s) ≡ t → h .kind < arrayKind → (h .kind ≡ unusedKind → ⊥) → cond t (whole (h .size + h .count)) cut ≡ whole n → Whole n
+      by-size : (t : Bool) → leb (h .size + h .count) (length s) ≡ t → h .kind < arrayKind → (h .kind ≡ unusedKind → ⊥)
+          → cond t (whole (h .size + h .count)) cut ≡ whole n → Whole n
       by-size true e l u q = let total : h .size + h .count ≡ n = cc in rw (← total) (flat l u (leb-true _ _ e))
       by-size false e l u q = absurd-numbers (cc)
 
-      by-use : (t : Bool) → eqb (h .kind) unusedKind ≡ t → h .kind < arrayKind → cond t cut (cond (leb (h .size + h .count) (length s)) (whole (h .size + h .count)) cut) ≡ whole n → Whole n
+      by-use : (t : Bool) → eqb (h .kind) unusedKind ≡ t → h .kind < arrayKind
+          → cond t cut (cond (leb (h .size + h .count) (length s)) (whole (h .size + h .count)) cut) ≡ whole n → Whole n
       by-use true e l q = absurd-numbers (cc)
       by-use false e l q = by-size (leb (h .size + h .count) (length s)) refl l (eqb-false _ _ e) q
 
       by-kind : (t : Bool) → leb arrayKind (h .kind) ≡ t
-          → cond t (beyond (h .size) (inside (itemsOf (h .kind) (h .count)) (drop (h .size) s))) (cond (eqb (h .kind) unusedKind) cut (cond (leb (h .size + h .count) (length s)) (whole (h .size + h .count)) cut)) ≡ whole n → Whole n
+          → cond t (beyond (h .size) (inside (itemsOf (h .kind) (h .count)) (drop (h .size) s)))
+          (cond (eqb (h .kind) unusedKind) cut (cond (leb (h .size + h .count) (length s)) (whole (h .size + h .count)) cut)) ≡ whole n → Whole n
       by-kind true e q = let b = beyond-whole (h .size) _ n q in rw (← b .total) (container (leb-true _ _ e) (b .rest))
       by-kind false e q = by-use (eqb (h .kind) unusedKind) refl (leb-false _ _ e) q
 
@@ -126,7 +130,8 @@ module _ (inside : ℕ → List ℕ → Passage) (h : Head) (s : List ℕ) where
       by-tests false false q = cc
 
       by-kind : (t : Bool) → leb arrayKind (h .kind) ≡ t
-          → cond t (beyond (h .size) (inside (itemsOf (h .kind) (h .count)) (drop (h .size) s))) (cond (eqb (h .kind) unusedKind) cut (cond (leb (h .size + h .count) (length s)) (whole (h .size + h .count)) cut)) ≡ tooDeep
+          → cond t (beyond (h .size) (inside (itemsOf (h .kind) (h .count)) (drop (h .size) s)))
+          (cond (eqb (h .kind) unusedKind) cut (cond (leb (h .size + h .count) (length s)) (whole (h .size + h .count)) cut)) ≡ tooDeep
           → (arrayKind ≤ h .kind) × (inside (itemsOf (h .kind) (h .count)) (drop (h .size) s) ≡ tooDeep)
       by-kind true e q = (leb-true _ _ e, beyond-deep (h .size) (inside (itemsOf (h .kind) (h .count)) (drop (h .size) s)) q)
       by-kind false e q = absurd-numbers (by-tests (eqb (h .kind) unusedKind) (leb (h .size + h .count) (length s)) q)

@@ -8,10 +8,10 @@ use native.Mathlib.Omega.{arith}
 use borrow.Author.Tests.{leb-true, eqb-true}
 use lib.Dec.{leb, eqb}
 use lib.ListN.{length}
+use Rattle.slices.specs.Logic.{absurd-numbers}
 use Rattle.msgpack.specs.Formats.{unusedKind}
 use Rattle.msgpack.specs.Items.{Head, headOf}
 use Rattle.msgpack.specs.Readers.{isWhole, Part, part, contentAt, Counted, counted, countAt}
-use Rattle.msgpack.specs.HeadLaws.{absurd-numbers}
 use Rattle.msgpack.specs.PassingLaws.{head-within}
 
 pub record IsWhole (kind : ℕ) (h : Head) (n : ℕ) : Type 0 where
@@ -35,7 +35,8 @@ pub part-inside : (kind : ℕ) (s : List ℕ) (p : Part) → contentAt kind s �
 unfolding contentAt
 part-inside kind s p e = by (isWhole kind (headOf s) (length s)) refl e
   where
-    by : (t : Bool) → isWhole kind (headOf s) (length s) ≡ t → cond t (some (part (headOf s .size) (headOf s .count))) none ≡ some p → p .start + p .size ≤ length s
+    by : (t : Bool) → isWhole kind (headOf s) (length s) ≡ t → cond t (some (part (headOf s .size) (headOf s .count))) none ≡ some p
+        → p .start + p .size ≤ length s
     by true w q =
         let is : part (headOf s .size) (headOf s .count) ≡ p = cc in
         rw (← is) (is-whole kind (headOf s) (length s) w .inside)

@@ -2,7 +2,7 @@
 use Prim.Native.Nat.{ℕ}
 use mathlib.Core.List.{List}
 use native.Mathlib.Omega.{arith}
-use Rattle.endian.specs.Bytes.{AllBytes, none-bytes, cons-bytes, append-bytes}
+use Rattle.slices.specs.Bytes.{AllBytes, none-bytes, cons-bytes, append-bytes}
 use Rattle.msgpack.specs.Readers.{Int}
 use Rattle.msgpack_model.specs.Values.{Value}
 use Rattle.msgpack_model.specs.Encoding.{Signed, non-negative, negative, TextHead, fixstr, str8, str16, str32, BinaryHead, bin8, bin16, bin32, ExtensionHead, fixext1, fixext2, fixext4, fixext8, fixext16, ext8, ext16, ext32, ArrayHead, fixarray, array16, array32, MapHead, fixmap, map16, map32, Scalar, nil, false-byte, true-byte, positive-fixint, negative-fixint, uint8, uint16, uint32, uint64, int8, int16, int32, int64, float32, float64, text, binary, extension, Encodes, scalar, array, map, none, next, no-pair, next-pair}

@@ -20,21 +20,25 @@ flat-passes {e = e} f a rest =
     let total : length e ≡ length (f .top) + length (f .body) = ap length (f .split) ∙ length-append (f .top) (f .body) in
     let fits : length (f .top) + length (f .body) ≤ length s = rw (length-append (f .top) (f .body ++ rest), length-append (f .body) rest) (omega arith) in
     rw (joined, total)
-    (sym (flat-whole a s (head (f .kind) (length (f .top)) (length (f .body))) (sym (f .begun (f .body ++ rest))) (f .holds-none) (λ (u : f .kind ≡ unusedKind). omega (arith, f .some-kind)) fits))
+    (sym (flat-whole a s (head (f .kind) (length (f .top)) (length (f .body))) (sym (f .begun (f .body ++ rest))) (f .holds-none)
+    (λ (u : f .kind ≡ unusedKind). omega (arith, f .some-kind)) fits))
 
 -- a container whose items are passed over
-container-passes : (kind count : ℕ) (h e : List ℕ) → arrayKind ≤ kind → Begins kind h count → (a : ℕ) (rest : List ℕ) → passItems (passItem a) (itemsOf kind count) (e ++ rest) ≡ whole (length e)
+container-passes : (kind count : ℕ) (h e : List ℕ) → arrayKind ≤ kind → Begins kind h count → (a : ℕ) (rest : List ℕ)
+    → passItems (passItem a) (itemsOf kind count) (e ++ rest) ≡ whole (length e)
     → passItem (suc a) ((h ++ e) ++ rest) ≡ whole (length (h ++ e))
 container-passes kind count h e l begun a rest p =
     rw (append-assoc h e rest, length-append h e)
     (sym (within-container a (h ++ (e ++ rest)) (head kind (length h) count) (sym (begun (e ++ rest))) l) ∙ rw (drop-append-seam h (e ++ rest), p))
 
-one-more : (item : List ℕ → Passage) (count : ℕ) (e f rest : List ℕ) → item (e ++ (f ++ rest)) ≡ whole (length e) → passItems item count (f ++ rest) ≡ whole (length f)
+one-more : (item : List ℕ → Passage) (count : ℕ) (e f rest : List ℕ) → item (e ++ (f ++ rest)) ≡ whole (length e)
+    → passItems item count (f ++ rest) ≡ whole (length f)
     → passItems item (suc count) ((e ++ f) ++ rest) ≡ whole (length (e ++ f))
 unfolding passItems
 one-more item count e f rest p q = rw (append-assoc e f rest, p, drop-append-seam e (f ++ rest), q, length-append e f)
 
-two-more : (item : List ℕ → Passage) (n : ℕ) (e f g rest : List ℕ) → item (e ++ ((f ++ g) ++ rest)) ≡ whole (length e) → item (f ++ (g ++ rest)) ≡ whole (length f)
+two-more : (item : List ℕ → Passage) (n : ℕ) (e f g rest : List ℕ) → item (e ++ ((f ++ g) ++ rest)) ≡ whole (length e)
+    → item (f ++ (g ++ rest)) ≡ whole (length f)
     → passItems item (n + n) (g ++ rest) ≡ whole (length g) → passItems item (suc n + suc n) ((e ++ (f ++ g)) ++ rest) ≡ whole (length (e ++ (f ++ g)))
 two-more item n e f g rest p q r =
     let twice : suc n + suc n ≡ suc (suc (n + n)) = omega arith in

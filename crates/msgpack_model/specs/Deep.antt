@@ -8,16 +8,16 @@ use borrow.Author.Tests.{leb-true, leb-false}
 use lib.Dec.{leb}
 use lib.ListN.{length, take, drop, take-append-drop}
 use lib.Seq.{drop-append-seam}
-use Rattle.endian.specs.Bytes.{AllBytes, drop-bytes}
+use Rattle.slices.specs.Bytes.{AllBytes, drop-bytes}
+use Rattle.slices.specs.Logic.{absurd-numbers}
 use Rattle.msgpack.specs.Formats.{arrayKind, mapKind}
 use Rattle.msgpack.specs.Items.{Head, Passage, whole, cut, tooDeep, head, headOf, itemsOf, andThen, passItems, passItem}
-use Rattle.msgpack.specs.HeadLaws.{absurd-numbers}
 use Rattle.msgpack.specs.PassingLaws.{beyond-deep, head-deep, too-deep, within-container}
 use Rattle.msgpack_model.specs.Values.{Value, Values, no-values, value, Pairs, pair, countValues, countPairs, depth, valuesDepth, pairsDepth}
 use Rattle.msgpack_model.specs.Encoding.{Encodes, scalar, array, map, EncodesValues, none, next, no-pair, next-pair, Opens, opens-array, opens-map, TooDeep, here, inside}
 use Rattle.msgpack_model.specs.Heads.{array-begins, map-begins}
 use Rattle.msgpack_model.specs.Complete.{complete}
-use Rattle.msgpack_model.specs.Rows.{Front, no-item, scalar-item, array-item, map-item, front}
+use Rattle.msgpack_model.specs.Rows.{Front, no-item, scalar-item, array-item, map-item, front-read}
 use Rattle.msgpack_model.specs.Sound.{EncodesWithin, scalar-depth, sound}
 
 -- ---- where the relation holds
@@ -35,7 +35,8 @@ opened (opens-array {n = n} x) = record { kind = arrayKind; number = n; is-conta
 opened (opens-map {n = n} x) = record { kind = mapKind; number = n; is-container = omega arith; items = refl; begun = map-begins x }
 
 -- items that are whole, and those after them
-after-whole : {vs : Values} {e : List ℕ} → EncodesValues vs e → (a : ℕ) → valuesDepth vs ≤ a → (more : ℕ) (t : List ℕ) → passItems (passItem a) more t ≡ tooDeep → passItems (passItem a) (countValues vs + more) (e ++ t) ≡ tooDeep
+after-whole : {vs : Values} {e : List ℕ} → EncodesValues vs e → (a : ℕ) → valuesDepth vs ≤ a → (more : ℕ) (t : List ℕ)
+    → passItems (passItem a) more t ≡ tooDeep → passItems (passItem a) (countValues vs + more) (e ++ t) ≡ tooDeep
 unfolding passItems
 after-whole none a d more t p = let z : 0 + more ≡ more = omega arith in rw z p
 after-whole (next {vs = vs} {e = e} {f = f} x xs) a d more t p =
@@ -47,7 +48,8 @@ unfolding passItems
 first-deep item more t p = rw p
 
 pub deep : {a : ℕ} {s : List ℕ} → TooDeep a s → passItem a s ≡ tooDeep
-deep (here {h = h} x rest) = let o = opened x in sym (too-deep 0 (h ++ rest) (head (o .kind) (length h) (o .number)) (sym (o .begun rest)) (o .is-container) refl)
+deep (here {h = h} x rest) = let o =
+    opened x in sym (too-deep 0 (h ++ rest) (head (o .kind) (length h) (o .number)) (sym (o .begun rest)) (o .is-container) refl)
 deep (inside {a = a} {count = count} {h = h} {e = e} {t = t} {vs = vs} x xs d l y) =
     let o = opened x in
     let more : ℕ = count - suc (countValues vs) in
@@ -86,10 +88,21 @@ module _ (a : ℕ) where
 
   first-by : (count : ℕ) (s : List ℕ) → ((t : List ℕ) → AllBytes t → passItems (passItem a) count t ≡ tooDeep → First a count t) → AllBytes s
       → (r : Passage) → passItem a s ≡ r → andThen r (λ n. passItems (passItem a) count (drop n s)) ≡ tooDeep → First a (suc count) s
-  first-by count s more bytes (whole n) e q = one-earlier count n s (sound a s n bytes e) (more (drop n s) (drop-bytes n bytes) (beyond-deep n (passItems (passItem a) count (drop n s)) q))
+  first-by count s more bytes (whole n) e q = one-earlier count n s (sound a s n bytes e)
+      (more (drop n s) (drop-bytes n bytes) (beyond-deep n (passItems (passItem a) count (drop n s)) q))
   first-by count s more bytes cut e q = absurd-numbers (cc)
   first-by count s more bytes tooDeep e q =
-      record { before = []; after = s; values = no-values; split = refl; encoded = none; shallow = omega arith; fewer = omega arith; too-deep-there = e; bytes-after = bytes }
+      record {
+        before = [];
+        after = s;
+        values = no-values;
+        split = refl;
+        encoded = none;
+        shallow = omega arith;
+        fewer = omega arith;
+        too-deep-there = e;
+        bytes-after = bytes;
+      }
 
   first-item : (count : ℕ) (s : List ℕ) → AllBytes s → passItems (passItem a) count s ≡ tooDeep → First a count s
   unfolding passItems
@@ -103,7 +116,8 @@ opens-front s h (scalar-item kind size count k x) l = absurd (omega arith)
 opens-front s h (array-item size count k x) l = opens-array x
 opens-front s h (map-item size count k x) l = opens-map x
 
-deep-inside : (a : ℕ) → ((s : List ℕ) → AllBytes s → passItem a s ≡ tooDeep → TooDeep a s) → (s : List ℕ) (size count : ℕ) → AllBytes s → Opens count (take size s) → passItems (passItem a) count (drop size s) ≡ tooDeep → TooDeep (suc a) s
+deep-inside : (a : ℕ) → ((s : List ℕ) → AllBytes s → passItem a s ≡ tooDeep → TooDeep a s) → (s : List ℕ) (size count : ℕ)
+    → AllBytes s → Opens count (take size s) → passItems (passItem a) count (drop size s) ≡ tooDeep → TooDeep (suc a) s
 deep-inside a more s size count bytes x p =
     let f = first-item a count (drop size s) (drop-bytes size bytes) p in
     rw (← f .split, take-append-drop) at (inside x (f .encoded) (f .shallow) (f .fewer) (more (f .after) (f .bytes-after) (f .too-deep-there)))
@@ -112,10 +126,11 @@ pub deep-means : (a : ℕ) (s : List ℕ) → AllBytes s → passItem a s ≡ to
 unfolding passItem
 deep-means zero s bytes p =
     let d = head-deep _ (headOf s) s p in
-    rw take-append-drop at (here (opens-front s (headOf s) (front s bytes) (d .0)) (drop (headOf s .size) s))
+    rw take-append-drop at (here (opens-front s (headOf s) (front-read s bytes) (d .0)) (drop (headOf s .size) s))
 deep-means (suc a) s bytes p =
     let d = head-deep _ (headOf s) s p in
-    deep-inside a (deep-means a) s (headOf s .size) (itemsOf (headOf s .kind) (headOf s .count)) bytes (opens-front s (headOf s) (front s bytes) (d .0)) (d .1)
+    deep-inside a (deep-means a) s (headOf s .size) (itemsOf (headOf s .kind) (headOf s .count)) bytes
+    (opens-front s (headOf s) (front-read s bytes) (d .0)) (d .1)
 
 -- ---- every encoding of a value that is deeper than the allowance
 
@@ -128,7 +143,8 @@ ValuesDeep vs e = (a : ℕ) → a < valuesDepth vs → (rest : List ℕ) → pas
 abbrev PairsDeep : Pairs → List ℕ → Type 0
 PairsDeep ps e = (a : ℕ) → a < pairsDepth ps → (rest : List ℕ) → passItems (passItem a) (countPairs ps + countPairs ps) (e ++ rest) ≡ tooDeep
 
-container-deep : {count inner : ℕ} {h : List ℕ} → Opens count h → (e : List ℕ) → ((a : ℕ) → a < inner → (rest : List ℕ) → passItems (passItem a) count (e ++ rest) ≡ tooDeep)
+container-deep : {count inner : ℕ} {h : List ℕ} → Opens count h → (e : List ℕ)
+    → ((a : ℕ) → a < inner → (rest : List ℕ) → passItems (passItem a) count (e ++ rest) ≡ tooDeep)
     → (a : ℕ) → a < suc inner → (rest : List ℕ) → passItem a ((h ++ e) ++ rest) ≡ tooDeep
 container-deep {h = h} x e p zero l rest = rw append-assoc (deep (here x (e ++ rest)))
 container-deep {h = h} x e p (suc a) l rest =
@@ -138,7 +154,8 @@ container-deep {h = h} x e p (suc a) l rest =
     ∙ rw (drop-append-seam h (e ++ rest), o .items, p a (omega arith) rest))
 
 -- an item, and those after it: one of them is too deep
-item-deep : {v : Value} {e : List ℕ} → Encodes v e → Deep v e → (a count : ℕ) (t : List ℕ) → (depth v ≤ a → passItems (passItem a) count t ≡ tooDeep) → passItems (passItem a) (suc count) (e ++ t) ≡ tooDeep
+item-deep : {v : Value} {e : List ℕ} → Encodes v e → Deep v e → (a count : ℕ) (t : List ℕ)
+    → (depth v ≤ a → passItems (passItem a) count t ≡ tooDeep) → passItems (passItem a) (suc count) (e ++ t) ≡ tooDeep
 unfolding passItems
 item-deep {v = v} {e = e} x p a count t q = by (leb (depth v) a) refl
   where
@@ -149,12 +166,14 @@ item-deep {v = v} {e = e} x p a count t q = by (leb (depth v) a) refl
 next-deep : {v : Value} {e : List ℕ} (vs : Values) (f : List ℕ) → Encodes v e → Deep v e → ValuesDeep vs f → ValuesDeep (value v vs) (e ++ f)
 next-deep vs f x p q a l rest = rw append-assoc (item-deep x p a (countValues vs) (f ++ rest) λ d. q a (omega arith) rest)
 
-pair-deep : {k v : Value} {e f : List ℕ} (ps : Pairs) (g : List ℕ) → Encodes k e → Deep k e → Encodes v f → Deep v f → PairsDeep ps g → PairsDeep (pair k v ps) (e ++ (f ++ g))
+pair-deep : {k v : Value} {e f : List ℕ} (ps : Pairs) (g : List ℕ) → Encodes k e → Deep k e → Encodes v f → Deep v f
+    → PairsDeep ps g → PairsDeep (pair k v ps) (e ++ (f ++ g))
 pair-deep {e = e} {f = f} ps g x p y q r a l rest =
     let twice : suc (countPairs ps) + suc (countPairs ps) ≡ suc (suc (countPairs ps + countPairs ps)) = omega arith in
     let joined : (e ++ (f ++ g)) ++ rest ≡ e ++ (f ++ (g ++ rest)) = simp append-assoc in
     rw (twice, joined)
-    (item-deep x p a (suc (countPairs ps + countPairs ps)) (f ++ (g ++ rest)) λ d. item-deep y q a (countPairs ps + countPairs ps) (g ++ rest) λ c. r a (omega arith) rest)
+    (item-deep x p a (suc (countPairs ps + countPairs ps)) (f ++ (g ++ rest)) λ d. item-deep y q a (countPairs ps + countPairs ps)
+    (g ++ rest) λ c. r a (omega arith) rest)
 
 -- the counterpart of `complete`
 pub deeper : {v : Value} {e : List ℕ} → Encodes v e → (a : ℕ) → a < depth v → (rest : List ℕ) → passItem a (e ++ rest) ≡ tooDeep

@@ -5,7 +5,7 @@ use mathlib.Core.Bool.{true, false}
 use mathlib.Core.List.{List, [], _∷_, _++_}
 use mathlib.Core.Path.{_≡_}
 use lib.ListN.{length}
-use Rattle.endian.specs.Bytes.{AllBytes}
+use Rattle.slices.specs.Bytes.{AllBytes}
 use Rattle.endian.specs.Numbers.{big}
 use Rattle.msgpack.specs.Readers.{Int, plus, minus}
 use Rattle.msgpack_model.specs.Values.{Value, Nil, Boolean, Integer, Float, Text, Binary, Extension, Array, Map, Values, no-values, value, Pairs, no-pairs, pair, countValues, countPairs, valuesDepth}
@@ -104,4 +104,5 @@ pub data Opens : ℕ → List ℕ → Type 0 where
 -- from left to right all is well formed up to the whole head of a container that stands in a others
 pub data TooDeep : ℕ → List ℕ → Type 0 where
   here : {count : ℕ} {h : List ℕ} → Opens count h → (rest : List ℕ) → TooDeep 0 (h ++ rest)
-  inside : {a count : ℕ} {h e t : List ℕ} {vs : Values} → Opens count h → EncodesValues vs e → valuesDepth vs ≤ a → countValues vs < count → TooDeep a t → TooDeep (suc a) (h ++ (e ++ t))
+  inside : {a count : ℕ} {h e t : List ℕ} {vs : Values} → Opens count h → EncodesValues vs e → valuesDepth vs ≤ a
+      → countValues vs < count → TooDeep a t → TooDeep (suc a) (h ++ (e ++ t))

@@ -10,15 +10,14 @@ use borrow.Author.Tests.{lt-ltb, le-ltb}
 use lib.Dec.{eqb}
 use lib.ListN.{length, getD, drop, length-append}
 use lib.Seq.{take-at}
+use Rattle.slices.specs.Tables.{agree}
 use Rattle.endian.specs.Numbers.{little, big}
 use Rattle.endian.specs.Places.{numberAt, number-there}
 use Rattle.msgpack.specs.Formats.{nilKind, booleanKind, integerKind, floatKind, textKind, binaryKind, extensionKind, arrayKind, mapKind, format, formats, formatOf}
 use Rattle.msgpack.specs.Items.{head, headOf}
 use Rattle.msgpack.specs.Readers.{Int, plus, minus, half, twosComplement, integerOf}
-use Rattle.msgpack.specs.Tables.{agree}
 use Rattle.msgpack_model.specs.Values.{Value, Nil, Boolean, Integer, Float, Text, Binary, Extension}
-use Rattle.msgpack_model.specs.Encoding.{Number, Signed, non-negative, negative, TextHead, fixstr, str8, str16, str32, BinaryHead, bin8, bin16, bin32, ExtensionHead, fixext1, fixext2, fixext4, fixext8, fixext16, ext8, ext16, ext32}
-use Rattle.msgpack_model.specs.Encoding.{ArrayHead, fixarray, array16, array32, MapHead, fixmap, map16, map32, Scalar, nil, false-byte, true-byte, positive-fixint, negative-fixint, uint8, uint16, uint32, uint64, int8, int16, int32, int64, float32, float64, text, binary, extension}
+use Rattle.msgpack_model.specs.Encoding.{Number, Signed, non-negative, negative, TextHead, fixstr, str8, str16, str32, BinaryHead, bin8, bin16, bin32, ExtensionHead, fixext1, fixext2, fixext4, fixext8, fixext16, ext8, ext16, ext32, ArrayHead, fixarray, array16, array32, MapHead, fixmap, map16, map32, Scalar, nil, false-byte, true-byte, positive-fixint, negative-fixint, uint8, uint16, uint32, uint64, int8, int16, int32, int64, float32, float64, text, binary, extension}
 
 -- ---- the table at the ranges of first bytes
 
@@ -123,7 +122,8 @@ two-halves (suc w) h = rw pow-suc (omega arith)
 pub signed-is : (w : ℕ) {i : Int} {e : List ℕ} → 0 < w → Signed w i e → twosComplement (length e) (big e) ≡ i
 unfolding twosComplement
 signed-is w h (non-negative {n = n} x l) = rw (x .size, x .is, lt-ltb n (half w) (omega (arith, two-halves w h)))
-signed-is w h (negative {n = n} {m = m} x l z) = rw (x .size, x .is, le-ltb n (half w) (omega (arith, two-halves w h))) (ap minus (omega (arith, two-halves w h)))
+signed-is w h (negative {n = n} {m = m} x l z) = rw (x .size, x .is, le-ltb n (half w) (omega (arith, two-halves w h)))
+    (ap minus (omega (arith, two-halves w h)))
 
 -- an encoding that is a head and the content that the head asks for
 pub record Flat (v : Value) (e : List ℕ) : Type 0 where
@@ -136,7 +136,8 @@ pub record Flat (v : Value) (e : List ℕ) : Type 0 where
   pub holds-none : kind < arrayKind
   pub is : scalarOf kind (getD top 0 0) body ≡ v
 
-flat : (v : Value) (kind : ℕ) (top body : List ℕ) → Begins kind top (length body) → 0 < kind → kind < arrayKind → scalarOf kind (getD top 0 0) body ≡ v → Flat v (top ++ body)
+flat : (v : Value) (kind : ℕ) (top body : List ℕ) → Begins kind top (length body) → 0 < kind → kind < arrayKind
+    → scalarOf kind (getD top 0 0) body ≡ v → Flat v (top ++ body)
 flat v kind top body begun some-kind holds-none is =
     record { kind = kind; top = top; body = body; split = refl; begun = begun; some-kind = some-kind; holds-none = holds-none; is = is }
 
@@ -147,17 +148,20 @@ alone : (v : Value) (kind b : ℕ) → formatOf b ≡ format kind 0 0 → 0 < ki
 alone v kind b form = flat v kind (b ∷ []) [] (fixed b kind 0 form)
 
 -- a first byte, and as many bytes as it fixes
-behind : (v : Value) (kind b w : ℕ) (e : List ℕ) → formatOf b ≡ format kind 0 w → length e ≡ w → 0 < kind → kind < arrayKind → scalarOf kind b e ≡ v → Flat v (b ∷ e)
+behind : (v : Value) (kind b w : ℕ) (e : List ℕ) → formatOf b ≡ format kind 0 w → length e ≡ w → 0 < kind → kind < arrayKind
+    → scalarOf kind b e ≡ v → Flat v (b ∷ e)
 behind v kind b w e form size = flat v kind (b ∷ []) e (λ rest. fixed b kind w form rest ∙ rw size)
 
-unsigned-flat : (b w n : ℕ) (e : List ℕ) → formatOf b ≡ format integerKind 0 w → Number w n e → scalarOf integerKind b e ≡ Integer (plus (big e)) → Flat (Integer (plus n)) (b ∷ e)
+unsigned-flat : (b w n : ℕ) (e : List ℕ) → formatOf b ≡ format integerKind 0 w → Number w n e
+    → scalarOf integerKind b e ≡ Integer (plus (big e)) → Flat (Integer (plus n)) (b ∷ e)
 unsigned-flat b w n e form x is = behind (Integer (plus n)) integerKind b w e form (x .size) (omega arith) (omega arith) (is ∙ rw (x .is))
 
 signed-size : {w : ℕ} {i : Int} {e : List ℕ} → Signed w i e → length e ≡ w
 signed-size (non-negative x l) = x .size
 signed-size (negative x l z) = x .size
 
-signed-flat : (b w : ℕ) (i : Int) (e : List ℕ) → formatOf b ≡ format integerKind 0 w → 0 < w → Signed w i e → scalarOf integerKind b e ≡ Integer (twosComplement (length e) (big e)) → Flat (Integer i) (b ∷ e)
+signed-flat : (b w : ℕ) (i : Int) (e : List ℕ) → formatOf b ≡ format integerKind 0 w → 0 < w → Signed w i e
+    → scalarOf integerKind b e ≡ Integer (twosComplement (length e) (big e)) → Flat (Integer i) (b ∷ e)
 signed-flat b w i e form h x is = behind (Integer i) integerKind b w e form (signed-size x) (omega arith) (omega arith) (is ∙ ap Integer (signed-is w h x))
 
 pub scalar-flat : {v : Value} {e : List ℕ} → Scalar v e → Flat v e
@@ -183,5 +187,6 @@ scalar-flat (binary {h = h} {e = e} x o) = flat (Binary e) binaryKind h e (binar
 scalar-flat (extension {h = h} {t = t} {e = e} x k o) = flat (Extension t e) extensionKind h (t ∷ e) (extension-begins x) (omega arith) (omega arith) refl
 
 -- what computes alike at every kind of scalar
-pub of-scalar : {A : Type 0} (f : Value → A) (a : A) → ((b : ℕ) (body : List ℕ) (kind : ℕ) → kind < arrayKind → f (scalarOf kind b body) ≡ a) → {v : Value} {e : List ℕ} → Scalar v e → f v ≡ a
+pub of-scalar : {A : Type 0} (f : Value → A) (a : A)
+    → ((b : ℕ) (body : List ℕ) (kind : ℕ) → kind < arrayKind → f (scalarOf kind b body) ≡ a) → {v : Value} {e : List ℕ} → Scalar v e → f v ≡ a
 of-scalar f a all x = let s = scalar-flat x in ap f (sym (s .is)) ∙ all (getD (s .top) 0 0) (s .body) (s .kind) (s .holds-none)

@@ -5,9 +5,9 @@ use mathlib.Core.Logic.{_↔_}
 use mathlib.Core.Path.{_≡_, refl, sym, ap, _∙_}
 use lib.ListN.{length, take, drop, take-append-drop}
 use lib.Seq.{length-take-le}
-use Rattle.endian.specs.Bytes.{AllBytes}
+use Rattle.slices.specs.Bytes.{AllBytes}
+use Rattle.slices.specs.Logic.{absurd-numbers}
 use Rattle.msgpack.specs.Items.{Passage, whole, cut, tooDeep, passItem}
-use Rattle.msgpack.specs.HeadLaws.{absurd-numbers}
 use Rattle.msgpack.specs.PassingLaws.{bounded}
 use Rattle.msgpack_model.specs.Encoding.{TooDeep}
 use Rattle.msgpack_model.specs.Complete.{complete}

@@ -9,26 +9,28 @@ use borrow.Author.Tests.{le-leb, ne-eqb, eqb-true}
 use lib.Dec.{leb, eqb}
 use lib.ListN.{length, getD, take, drop, length-append, length-drop}
 use lib.Seq.{length-take-le, drop-append-seam}
-use Rattle.endian.specs.Bytes.{AllBytes}
+use Rattle.slices.specs.Bytes.{AllBytes}
+use Rattle.slices.specs.Logic.{absurd-numbers}
+use Rattle.slices.specs.Tables.{agree}
 use Rattle.endian.specs.Numbers.{big}
 use Rattle.msgpack.specs.Formats.{booleanKind, integerKind, textKind, binaryKind, arrayKind, mapKind}
 use Rattle.msgpack.specs.Items.{Head, head, headOf}
 use Rattle.msgpack.specs.Readers.{isWhole, Part, part, content, contentOfPart, contentAt, readText, readBinary, readBoolean, Int, integerOf, readInteger, Counted, counted, countAt, readArray, readMap}
-use Rattle.msgpack.specs.HeadLaws.{absurd-numbers}
 use Rattle.msgpack.specs.ReaderLaws.{is-whole}
-use Rattle.msgpack.specs.Tables.{agree}
 use Rattle.msgpack_model.specs.Values.{Value, Boolean, Integer, Text, Binary, Values, Pairs, countValues, countPairs, asBoolean, asInteger, asText, asBinary, asArray, asMap}
 use Rattle.msgpack_model.specs.Encoding.{ArrayHead, MapHead, Scalar, Encodes, scalar, array, map, EncodesValues, EncodesPairs}
 use Rattle.msgpack_model.specs.Heads.{scalarOf, scalar-flat, of-scalar, array-begins, map-begins}
-use Rattle.msgpack_model.specs.Rows.{Front, no-item, scalar-item, array-item, map-item, front}
+use Rattle.msgpack_model.specs.Rows.{Front, no-item, scalar-item, array-item, map-item, front-read}
 use Rattle.msgpack_model.specs.Scalars.{contentOf, scalarAt, ScalarFront, flat-front, flat-value, There, scalar-there}
 
 -- ---- at a scalar
 
-integer-by : (kind b w : ℕ) (body : List ℕ) → length body ≡ w → kind < 8 → cond (eqb kind integerKind && true) (some (integerOf b w (big body))) nothing ≡ asInteger (scalarOf kind b body)
+integer-by : (kind b w : ℕ) (body : List ℕ) → length body ≡ w → kind < 8
+    → cond (eqb kind integerKind && true) (some (integerOf b w (big body))) nothing ≡ asInteger (scalarOf kind b body)
 unfolding scalarOf
 integer-by kind b w body size h =
-    rw (← size) (agree (λ k. cond (eqb k integerKind && true) (some (integerOf b (length body) (big body))) nothing) (λ k. asInteger (scalarOf k b body)) 8 refl kind h)
+    rw (← size) (agree (λ k. cond (eqb k integerKind && true) (some (integerOf b (length body) (big body))) nothing)
+    (λ k. asInteger (scalarOf k b body)) 8 refl kind h)
 
 module _ (s : List ℕ) (f : ScalarFront s) where
   content-size : length (contentOf s) ≡ headOf s .count
@@ -48,19 +50,22 @@ module _ (s : List ℕ) (f : ScalarFront s) where
   unfolding readBoolean isWhole scalarOf
   boolean-scalar =
       rw fits
-      (agree (λ k. cond (eqb k booleanKind && true) (some (eqb (getD s 0 0) 0xc3)) nothing) (λ k. asBoolean (scalarOf k (getD s 0 0) (contentOf s))) 8 refl (headOf s .kind) kind-small)
+      (agree (λ k. cond (eqb k booleanKind && true) (some (eqb (getD s 0 0) 0xc3)) nothing)
+      (λ k. asBoolean (scalarOf k (getD s 0 0) (contentOf s))) 8 refl (headOf s .kind) kind-small)
 
   text-scalar : contentOfPart s (readText s) ≡ asText (scalarAt s)
   unfolding contentAt isWhole scalarOf
   text-scalar =
       rw fits
-      (agree (λ k. contentOfPart s (cond (eqb k textKind && true) (some (part (headOf s .size) (headOf s .count))) nothing)) (λ k. asText (scalarOf k (getD s 0 0) (contentOf s))) 8 refl (headOf s .kind) kind-small)
+      (agree (λ k. contentOfPart s (cond (eqb k textKind && true) (some (part (headOf s .size) (headOf s .count))) nothing))
+      (λ k. asText (scalarOf k (getD s 0 0) (contentOf s))) 8 refl (headOf s .kind) kind-small)
 
   binary-scalar : contentOfPart s (readBinary s) ≡ asBinary (scalarAt s)
   unfolding contentAt isWhole scalarOf
   binary-scalar =
       rw fits
-      (agree (λ k. contentOfPart s (cond (eqb k binaryKind && true) (some (part (headOf s .size) (headOf s .count))) nothing)) (λ k. asBinary (scalarOf k (getD s 0 0) (contentOf s))) 8 refl (headOf s .kind) kind-small)
+      (agree (λ k. contentOfPart s (cond (eqb k binaryKind && true) (some (part (headOf s .size) (headOf s .count))) nothing))
+      (λ k. asBinary (scalarOf k (getD s 0 0) (contentOf s))) 8 refl (headOf s .kind) kind-small)
 
 -- ---- each reader, of every encoding
 
@@ -96,11 +101,13 @@ binary-reads (map {ps = ps} {h = h} {e = e} x xs) rest = rw (map-head ps h e res
 
 -- the head of an array: its count is the value's, and behind it stand the items
 pub data ArrayRead (s rest : List ℕ) : Option Counted → Option Values → Type 0 where
-  is-array : {vs : Values} {size : ℕ} {items : List ℕ} → size ≤ length s → drop size s ≡ items ++ rest → EncodesValues vs items → ArrayRead s rest (some (counted (countValues vs) size)) (some vs)
+  is-array : {vs : Values} {size : ℕ} {items : List ℕ} → size ≤ length s → drop size s ≡ items ++ rest → EncodesValues vs items
+      → ArrayRead s rest (some (counted (countValues vs) size)) (some vs)
   no-array : ArrayRead s rest nothing nothing
 
 pub data MapRead (s rest : List ℕ) : Option Counted → Option Pairs → Type 0 where
-  is-map : {ps : Pairs} {size : ℕ} {items : List ℕ} → size ≤ length s → drop size s ≡ items ++ rest → EncodesPairs ps items → MapRead s rest (some (counted (countPairs ps) size)) (some ps)
+  is-map : {ps : Pairs} {size : ℕ} {items : List ℕ} → size ≤ length s → drop size s ≡ items ++ rest → EncodesPairs ps items
+      → MapRead s rest (some (counted (countPairs ps) size)) (some ps)
   no-map : MapRead s rest nothing nothing
 
 behind-head : (h e rest : List ℕ) → drop (length h) ((h ++ e) ++ rest) ≡ e ++ rest
@@ -207,8 +214,8 @@ front-map s h (map-item size count l x) k = (l, x)
 
 pub array-only : (s : List ℕ) (c : Counted) → AllBytes s → readArray s ≡ some c → (c .size ≤ length s) × ArrayHead (c .count) (take (c .size) s)
 unfolding countAt
-array-only s c bytes e = told _ _ c e λ t q. rw (← q) (front-array s (headOf s) (front s bytes) (eqb-true _ _ t))
+array-only s c bytes e = told _ _ c e λ t q. rw (← q) (front-array s (headOf s) (front-read s bytes) (eqb-true _ _ t))
 
 pub map-only : (s : List ℕ) (c : Counted) → AllBytes s → readMap s ≡ some c → (c .size ≤ length s) × MapHead (c .count) (take (c .size) s)
 unfolding countAt
-map-only s c bytes e = told _ _ c e λ t q. rw (← q) (front-map s (headOf s) (front s bytes) (eqb-true _ _ t))
+map-only s c bytes e = told _ _ c e λ t q. rw (← q) (front-map s (headOf s) (front-read s bytes) (eqb-true _ _ t))

@@ -10,7 +10,7 @@ use borrow.Author.Tests.{leb-true, leb-false}
 use lib.Dec.{leb}
 use lib.ListN.{length, take, drop, length-drop}
 use lib.Seq.{take-add, length-take-le}
-use Rattle.endian.specs.Bytes.{AllBytes, tail-bytes, take-bytes, drop-bytes}
+use Rattle.slices.specs.Bytes.{AllBytes, tail-bytes, take-bytes, drop-bytes}
 use Rattle.endian.specs.Numbers.{little, big, big-lt}
 use Rattle.endian.specs.Places.{numberAt}
 use Rattle.msgpack.specs.Formats.{unusedKind, nilKind, booleanKind, integerKind, floatKind, textKind, binaryKind, extensionKind, arrayKind, mapKind, format, formats, formatOf}
@@ -18,22 +18,23 @@ use Rattle.msgpack.specs.Items.{Head, head, noHead, headBy, headOf}
 use Rattle.msgpack.specs.Readers.{Int, plus, minus}
 use Rattle.msgpack.specs.HeadLaws.{NumberRead, number-read}
 use Rattle.msgpack_model.specs.Values.{Value, Nil, Boolean, Integer, Float, Text, Binary, Extension}
-use Rattle.msgpack_model.specs.Encoding.{Number, Signed, non-negative, negative, TextHead, fixstr, str8, str16, str32, bin8, bin16, bin32, ExtensionHead, fixext1, fixext2, fixext4, fixext8, fixext16, ext8, ext16, ext32}
-use Rattle.msgpack_model.specs.Encoding.{ArrayHead, fixarray, array16, array32, MapHead, fixmap, map16, map32, Scalar, nil, false-byte, true-byte, positive-fixint, negative-fixint, uint8, uint16, uint32, uint64, int8, int16, int32, int64, float32, float64, text, binary, extension}
+use Rattle.msgpack_model.specs.Encoding.{Number, Signed, non-negative, negative, TextHead, fixstr, str8, str16, str32, bin8, bin16, bin32, ExtensionHead, fixext1, fixext2, fixext4, fixext8, fixext16, ext8, ext16, ext32, ArrayHead, fixarray, array16, array32, MapHead, fixmap, map16, map32, Scalar, nil, false-byte, true-byte, positive-fixint, negative-fixint, uint8, uint16, uint32, uint64, int8, int16, int32, int64, float32, float64, text, binary, extension}
 use Rattle.msgpack_model.specs.Heads.{at-positive, at-fixmap, at-fixarray, at-fixstr, at-negative}
 
 -- ---- what a head says of the bytes at the front
 
 pub data Front (s : List ℕ) : Head → Type 0 where
   no-item : (h : Head) → h .kind ≡ unusedKind → Front s h
-  scalar-item : (kind size count : ℕ) → kind < arrayKind → (size + count ≤ length s → (v : Value) × Scalar v (take (size + count) s)) → Front s (head kind size count)
+  scalar-item : (kind size count : ℕ) → kind < arrayKind
+      → (size + count ≤ length s → (v : Value) × Scalar v (take (size + count) s)) → Front s (head kind size count)
   array-item : (size count : ℕ) → size ≤ length s → ArrayHead count (take size s) → Front s (head arrayKind size count)
   map-item : (size count : ℕ) → size ≤ length s → MapHead count (take size s) → Front s (head mapKind size count)
 
 abbrev Row : ℕ → Type 0
 Row b = (t : List ℕ) → AllBytes t → Front (b ∷ t) (headOf (b ∷ t))
 
-read-front : (b kind w amount : ℕ) (t : List ℕ) → formatOf b ≡ format kind w amount → ((n : ℕ) → NumberRead big (b ∷ t) 1 w n → Front (b ∷ t) (head kind (1 + w) (amount + n))) → Front (b ∷ t) (headOf (b ∷ t))
+read-front : (b kind w amount : ℕ) (t : List ℕ) → formatOf b ≡ format kind w amount
+    → ((n : ℕ) → NumberRead big (b ∷ t) 1 w n → Front (b ∷ t) (head kind (1 + w) (amount + n))) → Front (b ∷ t) (headOf (b ∷ t))
 unfolding headOf
 read-front b kind w amount t form make = rw form (by (numberAt big (b ∷ t) 1 w) refl)
   where
@@ -51,7 +52,8 @@ scalar-row b kind w amount l form make t bytes =
     read-front b kind w amount t form λ n r. scalar-item kind (1 + w) (amount + n) l λ fits.
     let long : 1 + w + (amount + n) ≡ suc (w + (amount + n)) = omega arith in
     rw (long, take-add)
-    (make n (take w t) (take (amount + n) (drop w t)) (the-number b w n t bytes r) (length-take-le (amount + n) (drop w t) (omega (arith, length-drop w t))) (take-bytes (amount + n) (drop w t) (drop-bytes w bytes)))
+    (make n (take w t) (take (amount + n) (drop w t)) (the-number b w n t bytes r)
+    (length-take-le (amount + n) (drop w t) (omega (arith, length-drop w t))) (take-bytes (amount + n) (drop w t) (drop-bytes w bytes)))
 
 no-number : {n : ℕ} {e : List ℕ} → Number 0 n e → (e ≡ []) × (n ≡ 0)
 unfolding big little
@@ -59,7 +61,8 @@ no-number {e = []} x = (refl, sym (x .is))
 no-number {e = b ∷ e} x = absurd (omega (arith, x .size))
 
 -- a first byte that fixes how many bytes follow
-fixed-row : (b kind amount : ℕ) → kind < arrayKind → formatOf b ≡ format kind 0 amount → ((e : List ℕ) → length e ≡ amount → AllBytes e → (v : Value) × Scalar v (b ∷ e)) → Row b
+fixed-row : (b kind amount : ℕ) → kind < arrayKind → formatOf b ≡ format kind 0 amount
+    → ((e : List ℕ) → length e ≡ amount → AllBytes e → (v : Value) × Scalar v (b ∷ e)) → Row b
 fixed-row b kind amount l form make = scalar-row b kind 0 amount l form λ n h body x size bytes.
     let z = no-number x in
     rw (z .0) (make body (omega (arith, z .1)) bytes)
@@ -75,7 +78,8 @@ never-row : (b : ℕ) → formatOf b ≡ format unusedKind 0 0 → Row b
 never-row b form t bytes = read-front b unusedKind 0 0 t form λ n r. no-item (head unusedKind 1 (0 + n)) refl
 
 unsigned-row : (b w : ℕ) → formatOf b ≡ format integerKind 0 w → ((n : ℕ) (e : List ℕ) → Number w n e → Scalar (Integer (plus n)) (b ∷ e)) → Row b
-unsigned-row b w form make = fixed-row b integerKind w (omega arith) form λ e size bytes. (Integer (plus (big e)), make (big e) e (record { size = size; bytes = bytes; is = refl }))
+unsigned-row b w form make = fixed-row b integerKind w (omega arith) form λ e size bytes.
+    (Integer (plus (big e)), make (big e) e (record { size = size; bytes = bytes; is = refl }))
 
 signed-row : (b w : ℕ) → formatOf b ≡ format integerKind 0 w → ((i : Int) (e : List ℕ) → Signed w i e → Scalar (Integer i) (b ∷ e)) → Row b
 signed-row b w form make = fixed-row b integerKind w (omega arith) form λ e size bytes. by e size bytes (leb (256 ^ w) (big e + big e)) refl
@@ -85,7 +89,11 @@ signed-row b w form make = fixed-row b integerKind w (omega arith) form λ e siz
         let l : big e < 256 ^ w = rw size at (big-lt e bytes) in
         let m : ℕ = 256 ^ w - big e in
         (Integer (minus m), make (minus m) e (negative (record { size = size; bytes = bytes; is = refl }) (leb-true _ _ t) (omega arith)))
-    by e size bytes false t = (Integer (plus (big e)), make (plus (big e)) e (non-negative (record { size = size; bytes = bytes; is = refl }) (leb-false _ _ t)))
+    by e size bytes false t = (
+      Integer (plus (big e)),
+      make (plus (big e)) e
+          (non-negative (record { size = size; bytes = bytes; is = refl }) (leb-false _ _ t)),
+    )
 
 float-row : (b w : ℕ) → formatOf b ≡ format floatKind 0 w → ((e : List ℕ) → length e ≡ w → AllBytes e → Scalar (Float e) (b ∷ e)) → Row b
 float-row b w form make = fixed-row b floatKind w (omega arith) form λ e size bytes. (Float e, make e size bytes)
@@ -198,7 +206,8 @@ every-row b h = below80 (leb 0x80 b) refl
   where
     belowE0 : (t : Bool) → leb 0xe0 b ≡ t → 0xc0 ≤ b → Row b
     belowE0 false t l = from Row 0xc0 0xe0 b l (leb-false _ _ t) (λ k z. one-of Row 32 0xc0 k rows z)
-    belowE0 true t l = from Row 0xe0 256 b (leb-true _ _ t) h (λ k z. single-row (0xe0 + k) integerKind (Integer (minus (32 - k))) (omega arith) (at-negative k z) (negative-fixint k (32 - k) z (omega arith)))
+    belowE0 true t l = from Row 0xe0 256 b (leb-true _ _ t) h
+        (λ k z. single-row (0xe0 + k) integerKind (Integer (minus (32 - k))) (omega arith) (at-negative k z) (negative-fixint k (32 - k) z (omega arith)))
 
     belowC0 : (t : Bool) → leb 0xc0 b ≡ t → 0xa0 ≤ b → Row b
     belowC0 false t l = from Row 0xa0 0xc0 b l (leb-false _ _ t) fixstr-row
@@ -216,7 +225,7 @@ every-row b h = below80 (leb 0x80 b) refl
     below80 false t = let k : b < 128 = leb-false _ _ t in single-row b integerKind (Integer (plus b)) (omega arith) (at-positive b k) (positive-fixint b k)
     below80 true t = below90 (leb 0x90 b) refl (leb-true _ _ t)
 
-pub front : (s : List ℕ) → AllBytes s → Front s (headOf s)
+pub front-read : (s : List ℕ) → AllBytes s → Front s (headOf s)
 unfolding headOf
-front [] bytes = no-item noHead refl
-front (b ∷ t) bytes = every-row b (bytes .below 0) t (tail-bytes bytes)
+front-read [] bytes = no-item noHead refl
+front-read (b ∷ t) bytes = every-row b (bytes .below 0) t (tail-bytes bytes)

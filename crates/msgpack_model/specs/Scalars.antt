@@ -6,7 +6,7 @@ use native.Mathlib.Nat.{not-suc-le-zero}
 use native.Mathlib.Omega.{arith}
 use lib.ListN.{length, getD, take, drop, length-append, take-append-drop, List·getD-append}
 use lib.Seq.{drop-append-seam, take-append-seam}
-use Rattle.endian.specs.Bytes.{AllBytes}
+use Rattle.slices.specs.Bytes.{AllBytes}
 use Rattle.msgpack.specs.Formats.{unusedKind, arrayKind}
 use Rattle.msgpack.specs.Items.{Head, whole, head, headOf, passItem}
 use Rattle.msgpack.specs.PassingLaws.{head-within, flat-whole}
@@ -55,7 +55,8 @@ module _ {v : Value} {e : List ℕ} (f : Flat v e) (rest : List ℕ) where
 
   pub flat-value : scalarAt (e ++ rest) ≡ v
   flat-value =
-      let first : getD (f .top ++ (f .body ++ rest)) 0 0 ≡ getD (f .top) 0 0 = List·getD-append (f .top) (f .body ++ rest) 0 0 (begun-size (f .kind) (length (f .body)) (f .top) (f .some-kind) (f .begun)) in
+      let first : getD (f .top ++ (f .body ++ rest)) 0 0 ≡ getD (f .top) 0 0
+      = List·getD-append (f .top) (f .body ++ rest) 0 0 (begun-size (f .kind) (length (f .body)) (f .top) (f .some-kind) (f .begun)) in
       rw (flat-content, flat-head, joined, first) (f .is)
 
 -- ---- and back
@@ -77,6 +78,7 @@ flat-there s n v e q l d (map x xs) = absurd (not-suc-le-zero d)
 pub scalar-there : (s : List ℕ) → AllBytes s → ScalarFront s → There s (scalarAt s)
 scalar-there s bytes f =
     let n : ℕ = headOf s .size + headOf s .count in
-    let p : passItem 0 s ≡ whole n = sym (flat-whole 0 s (headOf s) refl (f .holds-none) (λ (u : headOf s .kind ≡ unusedKind). omega (arith, f .some-kind)) (f .fits)) in
+    let p : passItem 0 s ≡ whole n
+    = sym (flat-whole 0 s (headOf s) refl (f .holds-none) (λ (u : headOf s .kind ≡ unusedKind). omega (arith, f .some-kind)) (f .fits)) in
     let x = sound 0 s n bytes p in
     flat-there s n (x .value) (take n s) refl (f .fits) (x .shallow) (x .encoded)

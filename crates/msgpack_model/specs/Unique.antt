@@ -112,7 +112,8 @@ pairs-unique-none : PairsUnique no-pairs []
 pairs-unique-none qs f r q no-pair l h = refl
 pairs-unique-none qs f r q (next-pair y z ys) l h = absurd (omega arith)
 
-pairs-unique-next : (l v : Value) (ps : Pairs) (d e i : List ℕ) → Encodes l d → Encodes v e → Unique l d → Unique v e → PairsUnique ps i → PairsUnique (pair l v ps) (d ++ (e ++ i))
+pairs-unique-next : (l v : Value) (ps : Pairs) (d e i : List ℕ) → Encodes l d → Encodes v e → Unique l d → Unique v e
+    → PairsUnique ps i → PairsUnique (pair l v ps) (d ++ (e ++ i))
 pairs-unique-next l v ps d e i x y key one more qs f r q no-pair c h = absurd (omega arith)
 pairs-unique-next l v ps d e i x y key one more qs f r q (next-pair {k = k} {v = w} {ps = us} {e = a} {f = b} {g = j} u z ys) c h =
     let left : (d ++ (e ++ i)) ++ r ≡ d ++ (e ++ (i ++ r)) = simp append-assoc in

@@ -9,13 +9,12 @@ use native.Mathlib.Omega.{arith}
 use borrow.Author.Tests.{ltb-true, ltb-false}
 use lib.Dec.{ltb}
 use lib.ListN.{length, length-append}
-use Rattle.endian.specs.Bytes.{AllBytes}
+use Rattle.slices.specs.Bytes.{AllBytes}
 use Rattle.endian.specs.Numbers.{littleBytes, big-lt, bigBytes, length-bigBytes, bigBytes-bytes, big-of-bytes}
 use Rattle.msgpack.specs.Readers.{plus, contentOfPart, readText, readBinary, readInteger, counted, countAt, readArray, readMap}
-use Rattle.msgpack.specs.Writers.{Form, form, formBytes, sizedForm, textForm, unsignedForm, containerForm, textHead, binaryHead, unsignedInteger, arrayHead, mapHead}
+use Rattle.msgpack_heads.specs.Heads.{Form, form, formBytes, sizedForm, textForm, unsignedForm, containerForm, textHead, binaryHead, unsignedInteger, arrayHead, mapHead}
 use Rattle.msgpack_model.specs.Values.{Integer, Text, Binary, Array, Map, Values, Pairs, countValues, countPairs}
-use Rattle.msgpack_model.specs.Encoding.{Number, non-negative, TextHead, fixstr, str8, str16, str32, BinaryHead, bin8, bin16, bin32, ArrayHead, fixarray, array16, array32, MapHead, fixmap, map16, map32}
-use Rattle.msgpack_model.specs.Encoding.{positive-fixint, uint8, uint16, uint32, uint64, int8, int16, int32, int64, text, binary, Encodes, scalar, array, map, EncodesValues, EncodesPairs}
+use Rattle.msgpack_model.specs.Encoding.{Number, non-negative, TextHead, fixstr, str8, str16, str32, BinaryHead, bin8, bin16, bin32, ArrayHead, fixarray, array16, array32, MapHead, fixmap, map16, map32, positive-fixint, uint8, uint16, uint32, uint64, int8, int16, int32, int64, text, binary, Encodes, scalar, array, map, EncodesValues, EncodesPairs}
 use Rattle.msgpack_model.specs.Heads.{array-begins, map-begins}
 use Rattle.msgpack_model.specs.Readers.{integer-reads, text-reads, binary-reads}
 
@@ -41,7 +40,8 @@ by-test P n bound f g p q = go (ltb n bound) refl
     go false e = q (ltb-false n bound e)
 
 -- of the three sized forms, the one of w bytes holds n
-sized-by : (P : Form → Type 0) (first n : ℕ) → (n < 256 → P (form first 1)) → (n < 65536 → P (form (first + 1) 2)) → P (form (first + 2) 4) → P (sizedForm first n)
+sized-by : (P : Form → Type 0) (first n : ℕ) → (n < 256 → P (form first 1)) → (n < 65536 → P (form (first + 1) 2))
+    → P (form (first + 2) 4) → P (sizedForm first n)
 unfolding sizedForm
 sized-by P first n p q r = by-test P n 256 _ _ p λ h. by-test P n 65536 _ _ q λ k. r
 
@@ -54,7 +54,8 @@ text-head n h =
     λ k. sized-by (λ f. TextHead n (formBytes f n)) 0xd9 n (λ l. str8 (number-written 1 n l)) (λ l. str16 (number-written 2 n l)) (str32 (number-written 4 n h))
 
 pub binary-head : (n : ℕ) → n < 2 ^ 32 → BinaryHead n (binaryHead n)
-binary-head n h = sized-by (λ f. BinaryHead n (formBytes f n)) 0xc4 n (λ l. bin8 (number-written 1 n l)) (λ l. bin16 (number-written 2 n l)) (bin32 (number-written 4 n h))
+binary-head n h = sized-by (λ f. BinaryHead n (formBytes f n)) 0xc4 n (λ l. bin8 (number-written 1 n l))
+    (λ l. bin16 (number-written 2 n l)) (bin32 (number-written 4 n h))
 
 pub array-head : (n : ℕ) → n < 2 ^ 32 → ArrayHead n (arrayHead n)
 unfolding containerForm bigBytes littleBytes
@@ -81,7 +82,8 @@ unfolding unsignedForm bigBytes littleBytes
 unsigned-written n h =
     by-test (λ f. Encodes (Integer (plus n)) (formBytes f n)) n 128 _ _ (λ k. scalar (positive-fixint n k))
     λ k. by-test (λ f. Encodes (Integer (plus n)) (formBytes f n)) n 4294967296 _ _
-    (λ l. sized-by (λ f. Encodes (Integer (plus n)) (formBytes f n)) 0xcc n (λ m. scalar (uint8 (number-written 1 n m))) (λ m. scalar (uint16 (number-written 2 n m))) (scalar (uint32 (number-written 4 n l))))
+    (λ l. sized-by (λ f. Encodes (Integer (plus n)) (formBytes f n)) 0xcc n (λ m. scalar (uint8 (number-written 1 n m)))
+    (λ m. scalar (uint16 (number-written 2 n m))) (scalar (uint32 (number-written 4 n l))))
     λ l. scalar (uint64 (number-written 8 n h))
 
 pub array-written : {vs : Values} {e : List ℕ} → EncodesValues vs e → countValues vs < 2 ^ 32 → Encodes (Array vs) (arrayHead (countValues vs) ++ e)

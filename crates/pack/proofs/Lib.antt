@@ -1,4 +1,4 @@
 pub mod Calls
-pub mod Going
+pub mod Passes
 pub mod Lent
 pub mod Writes

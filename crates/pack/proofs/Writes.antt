@@ -8,13 +8,10 @@ use borrow.Author.Tests.{leb-true}
 use lib.Dec.{leb, ltb}
 use lib.ListN.{length, drop, set, length-set, getD}
 use lib.Seq.{drop-cons, set-at}
+use Rattle.refusals.specs.Limit.{packLimit}
 use Rattle.pack.specs.declared.Entry.{Entry}
-use Rattle.pack.specs.Reading.{Reading, Ending, whole, refused, records, reading, packLimit}
-use Rattle.pack.specs.Scan.{listedAt, firstEntries, first-entries, scanned, written, listAfter}
-
--- stands for an entry where there is none
-abbrev pub noEntry : Entry
-noEntry = record { start = 0; tag = 0; length = 0 }
+use Rattle.pack.specs.Reading.{Reading, Ending, whole, refused, records, reading}
+use Rattle.pack.specs.Scan.{noEntry, listedAt, firstEntries, first-entries, scanned, written, listAfter}
 
 module _ (s : List ℕ) where
   -- the place after i records

@@ -11,7 +11,7 @@ use borrow.Author.Tests.{le-ltb, ltb-false}
 use lib.Dec.{ltb}
 use lib.ListN.{length, take, drop, length-append, length-drop, length-take, take-append-drop}
 use lib.Seq.{take-at, drop-at, length-take-le}
-use Rattle.endian.specs.Bytes.{AllBytes, drop-bytes}
+use Rattle.slices.specs.Bytes.{AllBytes, drop-bytes}
 use Rattle.tlv.specs.Layout.{Record, Fits, layout, layouts, length-layout}
 use Rattle.tlv.specs.Found.{Found, end, found, fault, step, made, step-none, step-end}
 use Rattle.tlv.specs.Stands.{Stands, recordOf, step-stands, stands-fits, stands-layout, stands-made, layout-step, record-of-layout}
@@ -52,13 +52,15 @@ after es r = record { entries = es ++ r .entries; ending = r .ending }
 
 -- ---- records that stand end to end are read as such, whatever follows
 
-records-layout : (at : ℕ) (r : Record) (rest : List ℕ) → Fits r → records at 0 (layout r ++ rest) ≡ cons (entryOf at r) (records (at + length (layout r)) 0 rest)
+records-layout : (at : ℕ) (r : Record) (rest : List ℕ) → Fits r
+    → records at 0 (layout r ++ rest) ≡ cons (entryOf at r) (records (at + length (layout r)) 0 rest)
 unfolding made
 records-layout at r rest fits =
     records-found at (layout r ++ rest) (made (r .tag) (r .value)) (layout-step r rest fits)
     ∙ rw (← length-layout r, drop-at (layout r) rest (length (layout r)) refl)
 
-pub records-layouts : (at : ℕ) (rs : List Record) (rest : List ℕ) → AllFit rs → records at 0 (layouts rs ++ rest) ≡ after (entriesOf at rs) (records (at + length (layouts rs)) 0 rest)
+pub records-layouts : (at : ℕ) (rs : List Record) (rest : List ℕ) → AllFit rs
+    → records at 0 (layouts rs ++ rest) ≡ after (entriesOf at rs) (records (at + length (layouts rs)) 0 rest)
 unfolding layouts entriesOf
 records-layouts at [] rest fit = rw add-zero
 records-layouts at (r ∷ rs) rest fit =
@@ -90,13 +92,27 @@ read-end : (at : ℕ) (s : List ℕ) → length s ≡ 0 → Read at s
 unfolding layouts entriesOf
 read-end at s e =
     let r = records-end at s (step-none s e) in
-    record { before = []; rest = []; fit = tt; bytes = sym (none-left s e); entries = ap (λ (x : Reading). x .entries) r; ending = inl (refl, ap (λ (x : Reading). x .ending) r) }
+    record {
+      before = [];
+      rest = [];
+      fit = tt;
+      bytes = sym (none-left s e);
+      entries = ap (λ (x : Reading). x .entries) r;
+      ending = inl (refl, ap (λ (x : Reading). x .ending) r);
+    }
 
 read-fault : (at : ℕ) (s : List ℕ) (n : ℕ) → step s ≡ fault n → Read at s
 unfolding layouts entriesOf
 read-fault at s n e =
     let r = records-fault at s n e in
-    record { before = []; rest = s; fit = tt; bytes = refl; entries = ap (λ (x : Reading). x .entries) r; ending = inr (n, e, ap (λ (x : Reading). x .ending) r ∙ ap (refused n) (sym (add-zero at))) }
+    record {
+      before = [];
+      rest = s;
+      fit = tt;
+      bytes = refl;
+      entries = ap (λ (x : Reading). x .entries) r;
+      ending = inr (n, e, ap (λ (x : Reading). x .ending) r ∙ ap (refused n) (sym (add-zero at)));
+    }
 
 -- one record more in front
 read-more : (at : ℕ) (s : List ℕ) (h : RecordHeader) → AllBytes s → step s ≡ found h → Read (at + (32 + h .length)) (drop (32 + h .length) s) → Read at s
@@ -108,7 +124,8 @@ read-more at s h bytes e r =
     let n : length (layout first) ≡ 32 + h .length = ap length l ∙ length-take-le (32 + h .length) s (stands .long) in
     let entry : entryAt at h ≡ entryOf at first = ap (entryAt at) (sym (stands-made s h bytes stands)) in
     let one : records at 0 s ≡ cons (entryAt at h) (records (at + (32 + h .length)) 0 (drop (32 + h .length) s)) = records-found at s h e in
-    let place : (at + (32 + h .length)) + length (layouts (r .before)) ≡ at + length (layout first ++ layouts (r .before)) = rw (length-append, n) (omega arith) in
+    let place : (at + (32 + h .length)) + length (layouts (r .before)) ≡ at + length (layout first ++ layouts (r .before))
+    = rw (length-append, n) (omega arith) in
     record {
       before = first ∷ r .before;
       rest = r .rest;
@@ -124,7 +141,8 @@ read (suc k) at s h bytes = go (step s) refl (λ p t. read k p t)
   where
     go : (f : Found) → step s ≡ f → ((p : ℕ) (t : List ℕ) → length t ≤ k → AllBytes t → Read p t) → Read at s
     go end e more = read-end at s (step-end s e)
-    go (found d) e more = read-more at s d bytes e (more (at + (32 + d .length)) (drop (32 + d .length) s) (rw length-drop (omega arith)) (drop-bytes (32 + d .length) bytes))
+    go (found d) e more = read-more at s d bytes e
+        (more (at + (32 + d .length)) (drop (32 + d .length) s) (rw length-drop (omega arith)) (drop-bytes (32 + d .length) bytes))
     go (fault n) e more = read-fault at s n e
 
 -- THE THEOREM that the others here are read off from
@@ -145,7 +163,8 @@ layouts-unique (r ∷ rs) (t ∷ ts) f g e =
     let first : r ≡ t = sym (record-of-layout r (layouts rs) (f .0)) ∙ ap recordOf e ∙ record-of-layout t (layouts ts) (g .0) in
     let n : length (layout r) ≡ length (layout t) = ap (λ (x : Record). length (layout x)) first in
     let others : layouts rs ≡ layouts ts =
-    sym (drop-at (layout r) (layouts rs) (length (layout r)) refl) ∙ ap (drop (length (layout r))) e ∙ drop-at (layout t) (layouts ts) (length (layout r)) (sym n) in
+    sym (drop-at (layout r) (layouts rs) (length (layout r)) refl) ∙ ap (drop (length (layout r))) e
+    ∙ drop-at (layout t) (layouts ts) (length (layout r)) (sym n) in
     λ i. first i ∷ layouts-unique rs ts (f .1) (g .1) others i
 
 -- ---- starts rise, each record begins where the one before ends, the last ends at `stop`
@@ -192,7 +211,8 @@ module _ (limit : ℕ) (s : List ℕ) (within : length s ≤ limit) where
     pub accepted-fills : reading limit s .ending ≡ whole → Fills 0 (reading limit s .entries) (length s)
     accepted-fills e =
         let l = accepted-layouts e in
-        subst₂ (Fills 0) (ap (λ (x : Reading). x .entries) (sym (layouts-accepted (l .0) (l .1) (l .2)))) (zero-add (length (layouts (l .0))) ∙ ap length (l .2)) (entries-fill 0 (l .0))
+        subst₂ (Fills 0) (ap (λ (x : Reading). x .entries) (sym (layouts-accepted (l .0) (l .1) (l .2))))
+        (zero-add (length (layouts (l .0))) ∙ ap length (l .2)) (entries-fill 0 (l .0))
 
 -- a refusal's place is where the records before it end; the front up to there is accepted, with their entries
 pub record Refusal (limit : ℕ) (s : List ℕ) (n place : ℕ) : Type 0 where
@@ -221,7 +241,8 @@ refused-front limit s n place within bytes e = ⊎-elim (λ w. absurd (never n p
         record {
           fault-there = ap step rest ∙ stops ∙ ap fault (same .0);
           fills = subst₂ (Fills 0) entries (same .1) (entries-fill 0 (r .before));
-          front = layouts-accepted limit (take place s) (rw length-take (omega arith)) (r .before) (r .fit) front ∙ (λ i. record { entries = entries i; ending = whole });
+          front = layouts-accepted limit (take place s) (rw length-take (omega arith)) (r .before) (r .fit) front
+              ∙ (λ i. record { entries = entries i; ending = whole });
         }
 
 -- ---- a pack behind an accepted pack is read as by itself, places shifted

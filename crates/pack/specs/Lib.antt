@@ -1,4 +1,5 @@
 pub mod Reading
+pub mod Bounds
 pub mod Acceptance
 pub mod Scan
 pub mod Walk

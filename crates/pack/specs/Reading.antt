@@ -33,15 +33,32 @@ next end at rest = record { entries = []; ending = whole }
 next (found h) at rest = cons (record { start = at; tag = h .tag; length = h .length }) (rest (31 + h .length))
 next (fault n) at rest = record { entries = []; ending = refused n at }
 
--- the records of the bytes at `at`, the first `skip` of which belong to a record that has been read
+-- ---- the records of the bytes s, which begin at `at` of the pack. The recursion that is meant is `records-next`: what stands at the
+-- front, and after a record the same with what is left. antt wants it over the bytes one by one, so the definition passes over
+-- those, `skip` of them, that belong to a record that has been read.
+
 unfoldable pub records : ℕ → ℕ → List ℕ → Reading
 records at skip [] = record { entries = []; ending = whole }
 records at zero (b ∷ s) = next (step (b ∷ s)) at (λ n. records (suc at) n s)
 records at (suc skip) (b ∷ s) = records (suc at) skip s
 
--- the longest pack that document 01 has
-abbrev pub packLimit : ℕ
-packLimit = 4_294_967_295
+records-skip : (skip at : ℕ) (s : List ℕ) → records at skip s ≡ records (at + skip) 0 (drop skip s)
+unfolding records
+records-skip zero at s = rw add-zero
+records-skip (suc skip) at [] = refl
+records-skip (suc skip) at (b ∷ s) =
+    let e : suc at + skip ≡ at + suc skip = omega arith in
+    records-skip skip (suc at) s ∙ ap (λ (p : ℕ). records p 0 (drop skip s)) e
+
+pub records-next : (at : ℕ) (s : List ℕ) → records at 0 s ≡ next (step s) at (λ n. records (at + suc n) 0 (drop (suc n) s))
+unfolding records
+records-next at [] = rw (step-none [] refl)
+records-next at (b ∷ s) = ap (next (step (b ∷ s)) at) (fun-ext rest)
+  where
+    rest : (n : ℕ) → records (suc at) n s ≡ records (at + suc n) 0 (drop n s)
+    rest n =
+        let e : suc at + n ≡ at + suc n = omega arith in
+        records-skip n (suc at) s ∙ ap (λ (p : ℕ). records p 0 (drop n s)) e
 
 -- a pack, read under a limit on its length
 unfoldable pub reading : ℕ → List ℕ → Reading
@@ -63,27 +80,8 @@ outcomeOf (Checked.Fault f at) = refused (numberOf f) at
 abbrev pub outcome : Reading → Outcome
 outcome r = elim (r .ending) [ whole ↦ counted (length (r .entries)) | refused n at ↦ refused n at ]
 
--- ---- the recursion, as it is meant: after a record, the reading goes on with what is left
+-- ---- by what stands at the place
 
-records-skip : (skip at : ℕ) (s : List ℕ) → records at skip s ≡ records (at + skip) 0 (drop skip s)
-unfolding records
-records-skip zero at s = rw add-zero
-records-skip (suc skip) at [] = refl
-records-skip (suc skip) at (b ∷ s) =
-    let e : suc at + skip ≡ at + suc skip = omega arith in
-    records-skip skip (suc at) s ∙ ap (λ (p : ℕ). records p 0 (drop skip s)) e
-
-pub records-next : (at : ℕ) (s : List ℕ) → records at 0 s ≡ next (step s) at (λ n. records (at + suc n) 0 (drop (suc n) s))
-unfolding records
-records-next at [] = rw (step-none [] refl)
-records-next at (b ∷ s) = ap (next (step (b ∷ s)) at) (fun-ext rest)
-  where
-    rest : (n : ℕ) → records (suc at) n s ≡ records (at + suc n) 0 (drop n s)
-    rest n =
-        let e : suc at + n ≡ at + suc n = omega arith in
-        records-skip n (suc at) s ∙ ap (λ (p : ℕ). records p 0 (drop n s)) e
-
--- by what stands at the place
 pub records-end : (at : ℕ) (s : List ℕ) → step s ≡ end → records at 0 s ≡ record { entries = []; ending = whole }
 records-end at s e = rw (records-next, e)
 
@@ -93,13 +91,15 @@ records-fault at s n e = rw (records-next, e)
 abbrev pub entryAt : ℕ → RecordHeader → Entry
 entryAt at h = record { start = at; tag = h .tag; length = h .length }
 
-pub records-found : (at : ℕ) (s : List ℕ) (h : RecordHeader) → step s ≡ found h → records at 0 s ≡ cons (entryAt at h) (records (at + (32 + h .length)) 0 (drop (32 + h .length) s))
+pub records-found : (at : ℕ) (s : List ℕ) (h : RecordHeader) → step s ≡ found h
+    → records at 0 s ≡ cons (entryAt at h) (records (at + (32 + h .length)) 0 (drop (32 + h .length) s))
 records-found at s h e =
     let l : suc (31 + h .length) ≡ 32 + h .length = omega arith in
     rw (records-next at s, e, l)
 
 -- the same at a place of the whole pack: after a record, the reading goes on where the record ends
-pub records-on : (at : ℕ) (s : List ℕ) (h : RecordHeader) → step (drop at s) ≡ found h → records at 0 (drop at s) ≡ cons (entryAt at h) (records (at + 32 + h .length) 0 (drop (at + 32 + h .length) s))
+pub records-on : (at : ℕ) (s : List ℕ) (h : RecordHeader) → step (drop at s) ≡ found h
+    → records at 0 (drop at s) ≡ cons (entryAt at h) (records (at + 32 + h .length) 0 (drop (at + 32 + h .length) s))
 records-on at s h e =
     let place : at + (32 + h .length) ≡ at + 32 + h .length = omega arith in
     records-found at (drop at s) h e ∙ rw (drop-drop (32 + h .length) at s, place)

@@ -15,6 +15,10 @@ use Rattle.pack.specs.declared.Scanned.{Scanned}
 use Rattle.pack.specs.declared.Scanned.the-variants as Scanned
 use Rattle.pack.specs.Reading.{Reading, Ending, whole, refused, records, Outcome, counted, alone, outcome, entryAt, records-end, records-fault, records-on}
 
+-- stands for an entry where there is none
+abbrev pub noEntry : Entry
+noEntry = record { start = 0; tag = 0; length = 0 }
+
 -- what each answer of the code says
 abbrev pub scannedOf : Scanned → Outcome
 scannedOf (Scanned.Filled n) = counted n
@@ -56,7 +60,8 @@ unfoldable pub firstEntries : ℕ → List ℕ → ℕ → List Entry
 firstEntries zero s at = []
 firstEntries (suc n) s at = listedAt s at .entry ∷ firstEntries n s (listedAt s at .next)
 
-listed-found : (s : List ℕ) (at : ℕ) (h : RecordHeader) → step (drop at s) ≡ found h → listedAt s at ≡ record { entry = entryAt at h; next = at + 32 + h .length }
+listed-found : (s : List ℕ) (at : ℕ) (h : RecordHeader) → step (drop at s) ≡ found h
+    → listedAt s at ≡ record { entry = entryAt at h; next = at + 32 + h .length }
 unfolding listedAt
 listed-found s at h e = rw (pass-found s at h e)
 
@@ -69,7 +74,8 @@ unfolding firstEntries
 first-entries [] s at e = refl
 first-entries (d ∷ es) s at e = go (step (drop at s)) refl (λ p. first-entries es s p)
   where
-    go : (f : Found) → step (drop at s) ≡ f → ((p : ℕ) → records p 0 (drop p s) .entries ≡ es → firstEntries (length es) s p ≡ es) → listedAt s at .entry ∷ firstEntries (length es) s (listedAt s at .next) ≡ d ∷ es
+    go : (f : Found) → step (drop at s) ≡ f → ((p : ℕ) → records p 0 (drop p s) .entries ≡ es → firstEntries (length es) s p ≡ es)
+        → listedAt s at .entry ∷ firstEntries (length es) s (listedAt s at .next) ≡ d ∷ es
     go end there more = none-first d es _ (sym (ap (λ (r : Reading). r .entries) (records-end at (drop at s) there)) ∙ e)
     go (fault n) there more = none-first d es _ (sym (ap (λ (r : Reading). r .entries) (records-fault at (drop at s) n there)) ∙ e)
     go (found h) there more =

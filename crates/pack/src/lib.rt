@@ -3,7 +3,8 @@ ghost use mathlib.Core.Path.{_≡_};
 ghost use Prim.Native.Nat.{_≤_};
 ghost use mathlib.Core.List.{_++_};
 ghost use lib.ListN.{length, drop};
-ghost use Rattle.pack.specs.Reading.{reading, packLimit, outcome, outcomeOf};
+ghost use Rattle.refusals.specs.Limit.{packLimit};
+ghost use Rattle.pack.specs.Reading.{reading, outcome, outcomeOf};
 ghost use Rattle.pack.specs.Scan.{scannedOf, fitted, scanned, written, listedAt, firstEntries, listAfter};
 ghost use Rattle.pack.specs.Walk.{yieldOf, callOf, turnAt, nthYield};
 use tlv::Fault;
@@ -191,7 +192,8 @@ impl<'a> Walker<'a> {
     // stays, and answers the same at each later call.
     pub fn next(&mut self) -> Walked
         ensures { λ r. ⌜ (yieldOf r ≡ turnAt packLimit (now (now (self .entry) .pack)) (now (self .entry) .at) .yield)
-            × ((now (self .exit) .pack ≡ now (self .entry) .pack) × (now (self .exit) .at ≡ turnAt packLimit (now (now (self .entry) .pack)) (now (self .entry) .at) .place)) ⌝ }
+            × ((now (self .exit) .pack ≡ now (self .entry) .pack)
+            × (now (self .exit) .at ≡ turnAt packLimit (now (now (self .entry) .pack)) (now (self .entry) .at) .place)) ⌝ }
     {
         let turn = turn_at(self.pack, self.at);
         self.at = turn.at;

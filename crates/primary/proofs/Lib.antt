@@ -1,3 +1,3 @@
 pub mod Places
 pub mod Readings
-pub mod Splitting
+pub mod Composites

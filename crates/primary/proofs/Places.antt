@@ -6,23 +6,24 @@ use mathlib.Core.Path.{_≡_, sym, ap, subst, _∙_}
 use native.Mathlib.Omega.{arith}
 use lib.ListN.{length, take, drop, length-drop}
 use lib.Seq.{drop-drop}
+use Rattle.slices.specs.Logic.{absurd-numbers}
+use Rattle.slices.specs.Lists.{part-to-end}
+use Rattle.slices.specs.Places.{Inside}
+use Rattle.slices.specs.declared.Place.{Place}
 use Rattle.msgpack.specs.Formats.{textKind}
 use Rattle.msgpack.specs.Readers.{part, readText}
 use Rattle.msgpack.specs.ReaderLaws.{part-inside}
-use Rattle.msgpack.specs.HeadLaws.{absurd-numbers}
-use Rattle.msgpack.specs.Lookup.{Place, found, lastValue, atPlace, under}
+use Rattle.msgpack.specs.Lookup.{ValuePlace, found, lastValue, atPlace, under}
 use Rattle.msgpack.specs.LookupLaws.{value-inside}
-use Rattle.identifier.specs.Texts.{part-all}
 use Rattle.primary.specs.Parts.{textAt, textUnder}
-use Rattle.primary.specs.Answers.{Inside, AllInside, TextInside, TextsInside}
-use Rattle.primary.specs.declared.Text.{Text}
+use Rattle.primary.specs.Answers.{AllInside, TextInside, TextsInside}
 use Rattle.primary.specs.declared.Texts.{Texts}
 use Rattle.primary.specs.declared.TextRead.the-variants as text-answer
 use Rattle.primary.specs.declared.TextsRead.the-variants as texts-answer
 
 -- ---- answers with a place inside, or with none
 
-pub text-inside : (s : List ℕ) (t : Text) → Inside s t → TextInside s (text-answer.At t)
+pub text-inside : (s : List ℕ) (t : Place) → Inside s t → TextInside s (text-answer.At t)
 text-inside s t h = record { text = λ u e. let same : t ≡ u = cc in subst (λ v. Inside s v) same h }
 
 pub no-text : (s : List ℕ) → TextInside s text-answer.Missing
@@ -36,10 +37,6 @@ no-texts s = record { texts = λ u e. absurd-numbers (cc) }
 
 -- ---- a part from a place up to its end
 
--- how long the range from `a` up to `a + n` is
-pub range-length : (a n : ℕ) → a + n - a ≡ n
-range-length a n = omega arith
-
 module _ (s : List ℕ) (at : ℕ) (within : at ≤ length s) where
   abbrev rest : List ℕ
   rest = take (length s - at) (drop at s)
@@ -49,29 +46,29 @@ module _ (s : List ℕ) (at : ℕ) (within : at ≤ length s) where
   module _ (start len : ℕ) (e : some (part start len) ≡ readText rest) where
     pub text-found : some (take len (drop (at + start) s)) ≡ textAt (drop at s)
     unfolding textAt
-    text-found = rw (ap readText (sym (part-all at s)) ∙ sym e, drop-drop)
+    text-found = rw (ap readText (sym (part-to-end at s)) ∙ sym e, drop-drop)
 
     pub text-ends : Inside s (record { start = at + start; len = len })
     text-ends = record {
       end =
-          let h = part-inside textKind (drop at s) (part start len) (ap readText (sym (part-all at s)) ∙ sym e) in
+          let h = part-inside textKind (drop at s) (part start len) (ap readText (sym (part-to-end at s)) ∙ sym e) in
           omega (arith, h, length-drop at s);
     }
 
   pub text-missing : none ≡ readText rest → none ≡ textAt (drop at s)
   unfolding textAt
-  text-missing e = rw (ap readText (sym (part-all at s)) ∙ sym e)
+  text-missing e = rw (ap readText (sym (part-to-end at s)) ∙ sym e)
 
   -- ---- a value
 
   module _ (key : List ℕ) where
-    pub text-under-is : (p : Place) → p ≡ lastValue key rest → atPlace none (λ n. textAt (drop n (drop at s))) p ≡ textUnder key (drop at s)
+    pub text-under-is : (p : ValuePlace) → p ≡ lastValue key rest → atPlace none (λ n. textAt (drop n (drop at s))) p ≡ textUnder key (drop at s)
     unfolding textUnder under
-    text-under-is p e = rw (e, part-all at s)
+    text-under-is p e = rw (e, part-to-end at s)
 
     module _ (n : ℕ) (e : found n ≡ lastValue key rest) where
       pub value-within : at + n ≤ length s
-      value-within = omega (arith, value-inside key (drop at s) n (ap (lastValue key) (sym (part-all at s)) ∙ sym e), length-drop at s)
+      value-within = omega (arith, value-inside key (drop at s) n (ap (lastValue key) (sym (part-to-end at s)) ∙ sym e), length-drop at s)
 
       pub text-under-found : textAt (drop (at + n) s) ≡ textUnder key (drop at s)
       text-under-found = ap textAt (sym (drop-drop n at s)) ∙ text-under-is (found n) e

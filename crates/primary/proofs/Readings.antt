@@ -6,15 +6,17 @@ use mathlib.Core.Option.{Option, none, some}
 use mathlib.Core.Path.{_≡_, sym, subst}
 use native.Mathlib.Omega.{arith}
 use lib.ListN.{length, drop}
-use Rattle.msgpack.specs.HeadLaws.{absurd-numbers}
-use Rattle.msgpack.specs.Lookup.{Place, found, lastValue, atPlace, under}
+use Rattle.slices.specs.Logic.{absurd-numbers}
+use Rattle.slices.specs.Places.{Inside}
+use Rattle.slices.specs.declared.Place.{Place}
+use Rattle.refusals.specs.Answers.{Answer, refused, result}
+use Rattle.msgpack.specs.Lookup.{ValuePlace, found, lastValue, atPlace, under}
 use Rattle.msgpack.specs.LookupLaws.{value-inside}
 use Rattle.msgpack.specs.Readers.{readBoolean}
 use Rattle.identifier.specs.Ulid.{isUlid}
 use Rattle.identifier.specs.Identity.{Identity, isValid, identityOf}
-use Rattle.primary.specs.Parts.{Answer, refused, read, fills, ifFills, textAt, textUnder, textsBy, textsUnder, ulidKey, bucketKey, objectKey, identifierKey, deletedKey, deleteIdKey, deletedUnder, valid, ulidOf, shapeOf, shapeAt, shapeUnder, blockBy, block, versionBy, version, versionDeleteBy, versionDelete}
-use Rattle.primary.specs.Answers.{Inside, AllInside, BlockInside, VersionInside, DeleteInside}
-use Rattle.primary.specs.declared.Text.{Text}
+use Rattle.primary.specs.Parts.{fills, ifFills, textAt, textUnder, textsBy, textsUnder, ulidKey, bucketKey, objectKey, identifierKey, deletedKey, deleteIdKey, deletedUnder, valid, ulidOf, shapeOf, shapeAt, shapeUnder, blockBy, block, versionBy, version, versionDeleteBy, versionDelete}
+use Rattle.primary.specs.Answers.{AllInside, BlockInside, VersionInside, DeleteInside}
 use Rattle.primary.specs.declared.Texts.{Texts}
 use Rattle.primary.specs.declared.Fault.{Fault}
 use Rattle.primary.specs.declared.BlockRead.the-variants as block-answer
@@ -36,7 +38,7 @@ module _ (s : List ℕ) where
   pub no-version : (f : Fault) → VersionInside s (version-answer.Fault f)
   no-version f = record { identifier = λ u g e. absurd-numbers (cc) }
 
-  pub delete-inside : (t : Texts) (d : Text) → AllInside s t → Inside s d → DeleteInside s (delete-answer.Read t d)
+  pub delete-inside : (t : Texts) (d : Place) → AllInside s t → Inside s d → DeleteInside s (delete-answer.Read t d)
   delete-inside t d h g = record {
     identifier = λ u f e. let same : t ≡ u = cc in subst (λ v. AllInside s v) same h;
     deleteId = λ u f e. let same : d ≡ f = cc in subst (λ v. Inside s v) same g;
@@ -66,7 +68,7 @@ module _ (s : List ℕ) where
   unfolding shapeAt
   shape-is t i e f = rw (e, f)
 
-  pub deleted-is : (p : Place) → p ≡ lastValue deletedKey s → atPlace (some false) (λ n. readBoolean (drop n s)) p ≡ deletedUnder s
+  pub deleted-is : (p : ValuePlace) → p ≡ lastValue deletedKey s → atPlace (some false) (λ n. readBoolean (drop n s)) p ≡ deletedUnder s
   unfolding deletedUnder under
   deleted-is p e = rw e
 
@@ -76,17 +78,17 @@ pub cut : {A : Type 0} (s : List ℕ) (next : Answer A) → fills s ≡ false �
 cut s next w = rw w
 
 module _ (s : List ℕ) (w : fills s ≡ true) where
-  pub block-is : (p : Place) → p ≡ lastValue identifierKey s → blockBy (atPlace none (λ n. shapeAt (drop n s)) p) ≡ block s
+  pub block-is : (p : ValuePlace) → p ≡ lastValue identifierKey s → blockBy (atPlace none (λ n. shapeAt (drop n s)) p) ≡ block s
   unfolding block shapeUnder under
   block-is p e = rw (w, e)
 
-  pub version-tested : (i : Identity) (d t : Bool) → some i ≡ textsUnder s → some d ≡ deletedUnder s → t ≡ isValid i → cond t (read (record { identifier = i; deleted = d })) (refused 18) ≡ version s
+  pub version-tested : (i : Identity) (d t : Bool) → some i ≡ textsUnder s → some d ≡ deletedUnder s → t ≡ isValid i → cond t (result (record { identifier = i; deleted = d })) (refused 18) ≡ version s
   unfolding version identityOf
   version-tested i d true e f v = rw (w, ← e, ← f, ← v)
   version-tested i d false e f v = rw (w, ← e, ← f, ← v)
 
   pub delete-tested : (i : Identity) (u : List ℕ) (t v : Bool) → some i ≡ textsUnder s → some u ≡ textUnder deleteIdKey s → t ≡ isValid i → v ≡ isUlid u
-      → cond t (cond v (read (record { identifier = i; deleteId = u })) (refused 18)) (refused 18) ≡ versionDelete s
+      → cond t (cond v (result (record { identifier = i; deleteId = u })) (refused 18)) (refused 18) ≡ versionDelete s
   unfolding versionDelete identityOf ulidOf
   delete-tested i u true true e f v l = rw (w, ← e, ← f, ← v, ← l)
   delete-tested i u true false e f v l = rw (w, ← e, ← f, ← v, ← l)

@@ -1,13 +1,14 @@
 -- What the answers of the code say: the contents of a part at the places told.
-use Prim.Native.Nat.{ℕ, _+_, _≤_}
+use Prim.Native.Nat.{ℕ}
 use mathlib.Core.Bool.{Bool}
 use mathlib.Core.List.{List}
 use mathlib.Core.Option.{Option, none, some}
 use mathlib.Core.Path.{_≡_}
-use lib.ListN.{length, take, drop}
+use Rattle.slices.specs.Places.{partAt, Inside}
+use Rattle.slices.specs.declared.Place.{Place}
+use Rattle.refusals.specs.Answers.{Answer, refused, result}
 use Rattle.identifier.specs.Identity.{Identity, identity}
-use Rattle.primary.specs.Parts.{Answer, refused, read, Version, VersionDelete}
-use Rattle.primary.specs.declared.Text.{Text}
+use Rattle.primary.specs.Parts.{Version, VersionDelete}
 use Rattle.primary.specs.declared.Texts.{Texts}
 use Rattle.primary.specs.declared.TextRead.{TextRead}
 use Rattle.primary.specs.declared.TextRead.the-variants as text-answer
@@ -30,14 +31,11 @@ numberOf RuleBroken = 18
 
 -- ---- contents at places
 
-abbrev pub textIn : List ℕ → Text → List ℕ
-textIn s t = take (t .len) (drop (t .start) s)
-
 abbrev pub textsIn : List ℕ → Texts → Identity
-textsIn s t = identity (textIn s (t .ulid)) (textIn s (t .bucket)) (textIn s (t .object))
+textsIn s t = identity (partAt s (t .ulid)) (partAt s (t .bucket)) (partAt s (t .object))
 
 abbrev pub textOf : List ℕ → TextRead → Option (List ℕ)
-textOf s (text-answer.At t) = some (textIn s t)
+textOf s (text-answer.At t) = some (partAt s t)
 textOf s text-answer.Missing = none
 
 abbrev pub textsOf : List ℕ → TextsRead → Option Identity
@@ -45,21 +43,18 @@ textsOf s (texts-answer.At t) = some (textsIn s t)
 textsOf s texts-answer.Missing = none
 
 abbrev pub blockOf : List ℕ → BlockRead → Answer Identity
-blockOf s (block-answer.Read t) = read (textsIn s t)
+blockOf s (block-answer.Read t) = result (textsIn s t)
 blockOf s (block-answer.Fault f) = refused (numberOf f)
 
 abbrev pub versionOf : List ℕ → VersionRead → Answer Version
-versionOf s (version-answer.Read t deleted) = read (record { identifier = textsIn s t; deleted = deleted })
+versionOf s (version-answer.Read t deleted) = result (record { identifier = textsIn s t; deleted = deleted })
 versionOf s (version-answer.Fault f) = refused (numberOf f)
 
 abbrev pub versionDeleteOf : List ℕ → DeleteRead → Answer VersionDelete
-versionDeleteOf s (delete-answer.Read t d) = read (record { identifier = textsIn s t; deleteId = textIn s d })
+versionDeleteOf s (delete-answer.Read t d) = result (record { identifier = textsIn s t; deleteId = partAt s d })
 versionDeleteOf s (delete-answer.Fault f) = refused (numberOf f)
 
 -- ---- the places told lie inside the part
-
-pub record Inside (s : List ℕ) (t : Text) : Type 0 where
-  pub end : t .start + t .len ≤ length s
 
 pub record AllInside (s : List ℕ) (t : Texts) : Type 0 where
   pub ulid : Inside s (t .ulid)
@@ -67,7 +62,7 @@ pub record AllInside (s : List ℕ) (t : Texts) : Type 0 where
   pub object : Inside s (t .object)
 
 pub record TextInside (s : List ℕ) (r : TextRead) : Type 0 where
-  pub text : (t : Text) → r ≡ text-answer.At t → Inside s t
+  pub text : (t : Place) → r ≡ text-answer.At t → Inside s t
 
 pub record TextsInside (s : List ℕ) (r : TextsRead) : Type 0 where
   pub texts : (t : Texts) → r ≡ texts-answer.At t → AllInside s t
@@ -79,5 +74,5 @@ pub record VersionInside (s : List ℕ) (r : VersionRead) : Type 0 where
   pub identifier : (t : Texts) (deleted : Bool) → r ≡ version-answer.Read t deleted → AllInside s t
 
 pub record DeleteInside (s : List ℕ) (r : DeleteRead) : Type 0 where
-  pub identifier : (t : Texts) (d : Text) → r ≡ delete-answer.Read t d → AllInside s t
-  pub deleteId : (t : Texts) (d : Text) → r ≡ delete-answer.Read t d → Inside s d
+  pub identifier : (t : Texts) (d : Place) → r ≡ delete-answer.Read t d → AllInside s t
+  pub deleteId : (t : Texts) (d : Place) → r ≡ delete-answer.Read t d → Inside s d

@@ -1,20 +1,18 @@
--- When a part reads, and as what: exactly when it is whole, what it must have stands in it, and the texts keep the rules. So either shape of an identifier reads as the same identifier.
+-- When a part reads, and as what: exactly when it is whole, what it must have stands in it, and the texts keep the rules. So either shape
+-- of an identifier reads as the same identifier.
 use Prim.Native.Nat.{ℕ}
 use mathlib.Core.Bool.{Bool, true, false, cond}
 use mathlib.Core.List.{List}
 use mathlib.Core.Option.{Option, none, some}
 use mathlib.Core.Path.{_≡_, refl, sym, ap, subst, _∙_}
-use native.Mathlib.Omega.{arith}
-use lib.ListN.{length, drop, length-drop}
-use lib.Seq.{length-take-le}
-use Rattle.msgpack.specs.HeadLaws.{absurd-numbers}
+use lib.ListN.{length}
+use Rattle.slices.specs.Logic.{absurd-numbers}
+use Rattle.refusals.specs.Answers.{Answer, refused, result, orRefused}
 use Rattle.identifier.specs.Texts.{member}
 use Rattle.identifier.specs.Ulid.{isUlid}
 use Rattle.identifier.specs.Identity.{slash, Identity, isValid, identityOf}
 use Rattle.identifier.specs.Composite.{compositeText, shapes-agree, text-reads, reads-text}
-use Rattle.primary.specs.Parts.{Answer, refused, read, orRefused, fills, textUnder, textsUnder, deletedUnder, deleteIdKey, valid, ulidOf, Shape, composite, separate, shapeUnder, identityBy, block, Version, version, VersionDelete, versionDelete}
-use Rattle.primary.specs.Answers.{Inside, textIn}
-use Rattle.primary.specs.declared.Text.{Text}
+use Rattle.primary.specs.Parts.{fills, textUnder, textsUnder, deletedUnder, deleteIdKey, valid, ulidOf, Shape, composite, separate, shapeUnder, identityBy, block, Version, version, VersionDelete, versionDelete}
 
 -- ---- steps that were not refused
 
@@ -22,17 +20,17 @@ module _ {A B : Type 0} where
   record Step (o : Option A) (next : A → Answer B) (b : B) : Type 0 where
     given : A
     is : o ≡ some given
-    then-read : next given ≡ read b
+    then-read : next given ≡ result b
 
-  step : (number : ℕ) (o : Option A) (next : A → Answer B) (b : B) → orRefused number o next ≡ read b → Step o next b
+  step : (number : ℕ) (o : Option A) (next : A → Answer B) (b : B) → orRefused number o next ≡ result b → Step o next b
   step number (some a) next b e = record { given = a; is = refl; then-read = e }
   step number none next b e = absurd-numbers (cc)
 
 record Filled {A : Type 0} (s : List ℕ) (answer : Answer A) (a : A) : Type 0 where
   whole : fills s ≡ true
-  then-read : answer ≡ read a
+  then-read : answer ≡ result a
 
-filled : {A : Type 0} (s : List ℕ) (answer : Answer A) (a : A) (t : Bool) → fills s ≡ t → cond t answer (refused 16) ≡ read a → Filled s answer a
+filled : {A : Type 0} (s : List ℕ) (answer : Answer A) (a : A) (t : Bool) → fills s ≡ t → cond t answer (refused 16) ≡ result a → Filled s answer a
 filled s answer a true w e = record { whole = w; then-read = e }
 filled s answer a false w e = absurd-numbers (cc)
 
@@ -82,7 +80,7 @@ shape-reads : (i : Identity) (shape : Shape) → isValid i ≡ true → Shows i 
 shape-reads i shape v as-text = text-reads i v
 shape-reads i shape v as-map = some-valid i v
 
-pub names-block : (s : List ℕ) (i : Identity) → BlockNames s i → block s ≡ read i
+pub names-block : (s : List ℕ) (i : Identity) → BlockNames s i → block s ≡ result i
 unfolding block
 names-block s i b = rw (b .whole, b .there, shape-reads i (b .shape) (b .rules) (b .shows))
 
@@ -94,7 +92,7 @@ reads-shape s i (separate j) w e f =
     let r = valid-some j i f in
     record { whole = w; shape = separate j; there = e; shows = subst (λ k. Shows i (separate k)) (sym (r .same)) as-map; rules = r .rules }
 
-pub block-names : (s : List ℕ) (i : Identity) → block s ≡ read i → BlockNames s i
+pub block-names : (s : List ℕ) (i : Identity) → block s ≡ result i → BlockNames s i
 unfolding block
 block-names s i e =
     let a = filled s _ i (fills s) refl e in
@@ -107,7 +105,8 @@ block-names s i e =
 pub either-shape : (s t : List ℕ) (i : Identity) → BlockNames s i → BlockNames t i → block s ≡ block t
 either-shape s t i b d = names-block s i b ∙ sym (names-block t i d)
 
--- Where the texts break the rules both shapes are refused alike. (Of a ULID of another length, or a bucket with a slash, a joined text does not show where it was joined.)
+-- Where the texts break the rules both shapes are refused alike. (Of a ULID of another length, or a bucket with a slash, a joined text does
+-- not show where it was joined.)
 pub shapes-alike : (s t : List ℕ) (i : Identity) → length (i .ulid) ≡ 26 → member slash (i .bucket) ≡ false → fills s ≡ true → fills t ≡ true
     → shapeUnder s ≡ some (composite (compositeText i)) → shapeUnder t ≡ some (separate i) → block s ≡ block t
 unfolding block
@@ -121,11 +120,11 @@ pub record VersionNames (s : List ℕ) (v : Version) : Type 0 where
   pub flag : deletedUnder s ≡ some (v .deleted)
   pub rules : isValid (v .identifier) ≡ true
 
-pub names-version : (s : List ℕ) (v : Version) → VersionNames s v → version s ≡ read v
+pub names-version : (s : List ℕ) (v : Version) → VersionNames s v → version s ≡ result v
 unfolding version
 names-version s v n = rw (n .whole, n .texts, n .flag, some-valid (v .identifier) (n .rules))
 
-pub version-names : (s : List ℕ) (v : Version) → version s ≡ read v → VersionNames s v
+pub version-names : (s : List ℕ) (v : Version) → version s ≡ result v → VersionNames s v
 unfolding version
 version-names s v e =
     let a = filled s _ v (fills s) refl e in
@@ -145,11 +144,11 @@ pub record DeleteNames (s : List ℕ) (v : VersionDelete) : Type 0 where
   pub rules : isValid (v .identifier) ≡ true
   pub deleteRules : isUlid (v .deleteId) ≡ true
 
-pub names-delete : (s : List ℕ) (v : VersionDelete) → DeleteNames s v → versionDelete s ≡ read v
+pub names-delete : (s : List ℕ) (v : VersionDelete) → DeleteNames s v → versionDelete s ≡ result v
 unfolding versionDelete ulidOf
 names-delete s v n = rw (n .whole, n .texts, n .deleteText, some-valid (v .identifier) (n .rules), n .deleteRules)
 
-pub delete-names : (s : List ℕ) (v : VersionDelete) → versionDelete s ≡ read v → DeleteNames s v
+pub delete-names : (s : List ℕ) (v : VersionDelete) → versionDelete s ≡ result v → DeleteNames s v
 unfolding versionDelete
 delete-names s v e =
     let a = filled s _ v (fills s) refl e in
@@ -167,8 +166,3 @@ delete-names s v e =
       rules = r .rules;
       deleteRules = u .rules;
     })
-
--- ---- a text told is as long as its place says
-
-pub text-length : (s : List ℕ) (t : Text) → Inside s t → length (textIn s t) ≡ t .len
-text-length s t h = length-take-le (t .len) (drop (t .start) s) (omega (arith, h .end, length-drop (t .start) s))

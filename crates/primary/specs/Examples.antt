@@ -4,7 +4,8 @@ use mathlib.Core.Bool.{Bool, true, false}
 use mathlib.Core.List.{List, [], _∷_, _++_}
 use mathlib.Core.Path.{_≡_, refl}
 use lib.ListN.{length}
-use Rattle.endian.specs.Bytes.{sameBytes}
+use Rattle.slices.specs.Bytes.{sameBytes}
+use Rattle.refusals.specs.Answers.{Answer, refused, result}
 use Rattle.endian.specs.Numbers.{little, big}
 use Rattle.endian.specs.Places.{holds, numberAt}
 use Rattle.msgpack.specs.Formats.{formats, formatOf}
@@ -15,7 +16,7 @@ use Rattle.identifier.specs.Texts.{member, all, before}
 use Rattle.identifier.specs.Ulid.{alphabet, isCharacter, isUlid}
 use Rattle.identifier.specs.Identity.{sized, isBucket, isObject, Identity, identity, isValid, identityOf}
 use Rattle.identifier.specs.Composite.{compositeText, bucketIn, objectIn, isComposite, identityIn}
-use Rattle.primary.specs.Parts.{Answer, refused, read, fills, textAt, textUnder, textsUnder, deletedUnder, ulidOf, shapeAt, shapeUnder, block, Version, version, VersionDelete, versionDelete}
+use Rattle.primary.specs.Parts.{fills, textAt, textUnder, textsUnder, deletedUnder, ulidOf, shapeAt, shapeUnder, block, Version, version, VersionDelete, versionDelete}
 
 -- ---- items in their shortest form
 
@@ -99,7 +100,7 @@ told [] = []
 told (row ∷ rows) = (row .answer) ∷ told rows
 
 abbrev ofBucket : List ℕ → Bool → Answer Version
-ofBucket bucket deleted = read (record { identifier = identity low bucket scan; deleted = deleted })
+ofBucket bucket deleted = result (record { identifier = identity low bucket scan; deleted = deleted })
 
 unfoldable pub versions : List (Row Version)
 versions =
@@ -127,28 +128,32 @@ versions =
     ∷ []
 
 pub versions-read : answers version versions ≡ told versions
-unfolding versions version fills textAt textUnder textsUnder deletedUnder passItem passHead passItems headOf isWhole contentAt readBoolean keyAt sameBytes lastWhere lastValue under formatOf formats numberAt holds little big isUlid isCharacter alphabet isBucket isObject isValid identityOf sized member all
+unfolding versions version fills textAt textUnder textsUnder deletedUnder passItem passHead passItems headOf isWhole
+    contentAt readBoolean keyAt sameBytes lastWhere lastValue under formatOf formats numberAt holds little big isUlid
+    isCharacter alphabet isBucket isObject isValid identityOf sized member all
 versions-read = refl
 
 unfoldable pub deletes : List (Row VersionDelete)
 deletes =
-    gives (read (record { identifier = identity low herd scan; deleteId = high })) (mapOf (b (text herd) ∷ o ∷ v low ∷ deleteId (text high) ∷ d nil ∷ []))
+    gives (result (record { identifier = identity low herd scan; deleteId = high })) (mapOf (b (text herd) ∷ o ∷ v low ∷ deleteId (text high) ∷ d nil ∷ []))
     ∷ gives (refused 17) (mapOf (b (text herd) ∷ o ∷ v low ∷ []))
     ∷ gives (refused 17) (mapOf (b (text herd) ∷ o ∷ v small ∷ deleteId nil ∷ []))
     ∷ gives (refused 18) (mapOf (b (text herd) ∷ o ∷ v low ∷ deleteId (text small) ∷ []))
     ∷ []
 
 pub deletes-read : answers versionDelete deletes ≡ told deletes
-unfolding deletes versionDelete fills textAt textUnder textsUnder ulidOf passItem passHead passItems headOf isWhole contentAt keyAt sameBytes lastWhere lastValue under formatOf formats numberAt holds little big isUlid isCharacter alphabet isBucket isObject isValid identityOf sized member all
+unfolding deletes versionDelete fills textAt textUnder textsUnder ulidOf passItem passHead passItems headOf isWhole
+    contentAt keyAt sameBytes lastWhere lastValue under formatOf formats numberAt holds little big isUlid isCharacter
+    alphabet isBucket isObject isValid identityOf sized member all
 deletes-read = refl
 
 unfoldable pub blocks : List (Row Identity)
 blocks =
     -- either shape
-    gives (read (identity low herd scan)) (mapOf (I (text (compositeText (identity low herd scan))) ∷ []))
-    ∷ gives (read (identity low herd scan)) (mapOf (I (mapOf (v low ∷ b (text herd) ∷ o ∷ [])) ∷ []))
+    gives (result (identity low herd scan)) (mapOf (I (text (compositeText (identity low herd scan))) ∷ []))
+    ∷ gives (result (identity low herd scan)) (mapOf (I (mapOf (v low ∷ b (text herd) ∷ o ∷ [])) ∷ []))
     -- the last of a repeated key, in the part and in the map under `I`
-    ∷ gives (read (identity low flock scan)) (mapOf (I nil ∷ I (mapOf (v low ∷ b (text herd) ∷ b (text flock) ∷ o ∷ [])) ∷ []))
+    ∷ gives (result (identity low flock scan)) (mapOf (I nil ∷ I (mapOf (v low ∷ b (text herd) ∷ b (text flock) ∷ o ∷ [])) ∷ []))
     ∷ gives (refused 17) (mapOf (b (text herd) ∷ o ∷ v low ∷ []))
     ∷ gives (refused 17) (mapOf (I nil ∷ []))
     ∷ gives (refused 17) (mapOf (I (mapOf (v small ∷ b nil ∷ o ∷ [])) ∷ []))
@@ -157,5 +162,8 @@ blocks =
     ∷ []
 
 pub blocks-read : answers block blocks ≡ told blocks
-unfolding blocks block shapeAt shapeUnder compositeText isComposite identityIn bucketIn objectIn before fills textAt textUnder textsUnder passItem passHead passItems headOf isWhole contentAt keyAt sameBytes lastWhere lastValue under formatOf formats numberAt holds little big isUlid isCharacter alphabet isBucket isObject isValid identityOf sized member all
+unfolding blocks block shapeAt shapeUnder compositeText isComposite identityIn bucketIn objectIn before fills textAt
+    textUnder textsUnder passItem passHead passItems headOf isWhole contentAt keyAt sameBytes lastWhere lastValue under
+    formatOf formats numberAt holds little big isUlid isCharacter alphabet isBucket isObject isValid identityOf sized
+    member all
 blocks-read = refl

@@ -5,23 +5,13 @@ use mathlib.Core.List.{List, [], _∷_}
 use mathlib.Core.Option.{Option, none, some}
 use lib.Dec.{eqb}
 use lib.ListN.{length, drop}
+use Rattle.refusals.specs.Answers.{Answer, refused, result, orRefused}
 use Rattle.msgpack.specs.Items.{Passage, whole, cut, tooDeep, passItem, depthAllowed}
 use Rattle.msgpack.specs.Readers.{contentOfPart, readText, readBoolean}
 use Rattle.msgpack.specs.Lookup.{under, ifThere}
 use Rattle.identifier.specs.Ulid.{isUlid}
 use Rattle.identifier.specs.Identity.{Identity, identity, identityOf}
 use Rattle.identifier.specs.Composite.{identityIn}
-
--- ---- answers
-
-pub data Answer (A : Type 0) : Type 0 where
-  refused : ℕ → Answer A  -- with document 01's number
-  read : A → Answer A
-
--- what follows, where something is there; else the refusal with this number
-abbrev pub orRefused : {A B : Type 0} → ℕ → Option A → (A → Answer B) → Answer B
-orRefused number (some a) next = next a
-orRefused number none next = refused number
 
 -- ---- 16: one whole item fills the part, its depth counted from its own outermost container
 
@@ -118,7 +108,7 @@ identityBy (separate i) = valid i
 abbrev pub blockBy : Option Shape → Answer Identity
 blockBy shape =
     orRefused 17 shape λ i.
-    orRefused 18 (identityBy i) read
+    orRefused 18 (identityBy i) result
 
 unfoldable pub block : List ℕ → Answer Identity
 block s = ifFills s (blockBy (shapeUnder s))
@@ -132,7 +122,7 @@ versionBy texts flag =
     orRefused 17 texts λ i.
     orRefused 17 flag λ deleted.
     orRefused 18 (valid i) λ identifier.
-    read (record { identifier = identifier; deleted = deleted })
+    result (record { identifier = identifier; deleted = deleted })
 
 unfoldable pub version : List ℕ → Answer Version
 version s = ifFills s (versionBy (textsUnder s) (deletedUnder s))
@@ -148,7 +138,7 @@ versionDeleteBy texts deleteText =
     orRefused 17 deleteText λ t.
     orRefused 18 (valid i) λ identifier.
     orRefused 18 (ulidOf t) λ deleteId.
-    read (record { identifier = identifier; deleteId = deleteId })
+    result (record { identifier = identifier; deleteId = deleteId })
 
 unfoldable pub versionDelete : List ℕ → Answer VersionDelete
 versionDelete s = ifFills s (versionDeleteBy (textsUnder s) (textUnder deleteIdKey s))

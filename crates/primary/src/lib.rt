@@ -3,17 +3,20 @@
 ghost use mathlib.Core.Path.{_≡_};
 ghost use Prim.Native.Nat.{_≤_};
 ghost use lib.ListN.{length, drop};
+ghost use Rattle.slices.specs.Places.{partAt, Inside};
+ghost use Rattle.refusals.specs.Answers.{result, orRefused};
 ghost use Rattle.msgpack.specs.Readers.{booleanOf};
 ghost use Rattle.identifier.specs.Identity.{isValid};
 ghost use Rattle.identifier.specs.Ulid.{isUlid};
 ghost use Rattle.identifier.specs.Composite.{identityIn};
-ghost use Rattle.primary.specs.Parts.{read, orRefused, fills, textAt, textUnder, textsUnder, deletedUnder, shapeAt, valid, blockBy, block, version, versionDelete};
-ghost use Rattle.primary.specs.Answers.{numberOf, textIn, textsIn, textOf, textsOf, blockOf, versionOf, versionDeleteOf, Inside, AllInside, TextInside, TextsInside, BlockInside, VersionInside, DeleteInside};
+ghost use Rattle.primary.specs.Parts.{fills, textAt, textUnder, textsUnder, deletedUnder, shapeAt, valid, blockBy, block, version, versionDelete};
+ghost use Rattle.primary.specs.Answers.{numberOf, textsIn, textOf, textsOf, blockOf, versionOf, versionDeleteOf, AllInside, TextInside, TextsInside, BlockInside, VersionInside, DeleteInside};
 use identifier::Split;
 use msgpack::Boolean;
 use msgpack::Content;
 use msgpack::Found;
 use msgpack::Passed;
+use slices::Place;
 
 // Keys of an identifier's map.
 pub const BUCKET: [u8; 1] = *b"b";
@@ -49,17 +52,11 @@ pub fn number(f: Fault) -> u8
     }
 }
 
-// Where a text stands in the part.
-pub struct Text {
-    pub start: usize,
-    pub len: usize,
-}
-
-// Where the texts of an identifier stand.
+// Where the texts of an identifier stand in the part.
 pub struct Texts {
-    pub ulid: Text,
-    pub bucket: Text,
-    pub object: Text,
+    pub ulid: Place,
+    pub bucket: Place,
+    pub object: Place,
 }
 
 pub enum BlockRead {
@@ -75,12 +72,12 @@ pub enum VersionRead {
 
 // The version that goes, and the delete identifier.
 pub enum DeleteRead {
-    Read(Texts, Text),
+    Read(Texts, Place),
     Fault(Fault),
 }
 
 enum TextRead {
-    At(Text),
+    At(Place),
     Missing,
 }
 
@@ -107,7 +104,7 @@ fn text_at(part: &[u8], at: usize) -> TextRead
     ensures inside { λ r. ⌜ TextInside (now (part .entry)) r ⌝ }
 {
     match msgpack::read_text(&part[at..]) {
-        Content::Part { start, len } => TextRead::At(Text {
+        Content::Part { start, len } => TextRead::At(Place {
             start: at + start,
             len,
         }),
@@ -152,50 +149,39 @@ fn texts_under(part: &[u8], at: usize) -> TextsRead
 
 // Whether the three texts keep the rules.
 fn is_valid(part: &[u8], t: Texts) -> bool
-    requires { ⌜ AllInside (now part) t ⌝ }
     ensures { λ r. ⌜ r ≡ isValid (textsIn (now (part .entry)) t) ⌝ }
 {
-    let ulid = t.ulid.start;
-    let bucket = t.bucket.start;
-    let object = t.object.start;
-    let ulid_end = ulid + t.ulid.len;
-    let bucket_end = bucket + t.bucket.len;
-    let object_end = object + t.object.len;
     identifier::is_identifier(
-        &part[ulid..ulid_end],
-        &part[bucket..bucket_end],
-        &part[object..object_end],
+        slices::part(part, t.ulid),
+        slices::part(part, t.bucket),
+        slices::part(part, t.object),
     )
 }
 
 // Whether a text is a ULID.
-fn is_ulid(part: &[u8], t: Text) -> bool
-    requires { ⌜ Inside (now part) t ⌝ }
-    ensures { λ r. ⌜ r ≡ isUlid (textIn (now (part .entry)) t) ⌝ }
+fn is_ulid(part: &[u8], t: Place) -> bool
+    ensures { λ r. ⌜ r ≡ isUlid (partAt (now (part .entry)) t) ⌝ }
 {
-    let start = t.start;
-    let end = start + t.len;
-    identifier::is_ulid(&part[start..end])
+    identifier::is_ulid(slices::part(part, t))
 }
 
 // The identifier in a composite text.
-fn from_composite(part: &[u8], text: Text) -> BlockRead
+fn from_composite(part: &[u8], text: Place) -> BlockRead
     requires { ⌜ Inside (now part) text ⌝ }
-    ensures { λ r. ⌜ blockOf (now (part .entry)) r ≡ orRefused 18 (identityIn (textIn (now (part .entry)) text)) read ⌝ }
+    ensures { λ r. ⌜ blockOf (now (part .entry)) r ≡ orRefused 18 (identityIn (partAt (now (part .entry)) text)) result ⌝ }
     ensures inside { λ r. ⌜ BlockInside (now (part .entry)) r ⌝ }
 {
     let start = text.start;
-    let end = start + text.len;
-    match identifier::split_composite(&part[start..end]) {
+    match identifier::split_composite(slices::part(part, text)) {
         Split::Slash(slash) => {
             let from = slash + 1;
             BlockRead::Read(Texts {
-                ulid: Text { start, len: 26 },
-                bucket: Text {
+                ulid: Place { start, len: 26 },
+                bucket: Place {
                     start: start + 27,
                     len: slash - 27,
                 },
-                object: Text {
+                object: Place {
                     start: start + from,
                     len: text.len - from,
                 },
@@ -208,7 +194,7 @@ fn from_composite(part: &[u8], text: Text) -> BlockRead
 // The identifier of three texts.
 fn from_texts(part: &[u8], t: Texts) -> BlockRead
     requires { ⌜ AllInside (now part) t ⌝ }
-    ensures { λ r. ⌜ blockOf (now (part .entry)) r ≡ orRefused 18 (valid (textsIn (now (part .entry)) t)) read ⌝ }
+    ensures { λ r. ⌜ blockOf (now (part .entry)) r ≡ orRefused 18 (valid (textsIn (now (part .entry)) t)) result ⌝ }
     ensures inside { λ r. ⌜ BlockInside (now (part .entry)) r ⌝ }
 {
     if is_valid(part, t) {

@@ -1,10 +1,7 @@
-// The kinds of vectors: what is read, and what is found.
+// The kinds of vectors that read.
 use crate::show;
-use crate::show::say;
 use crate::show::say_number;
-use crate::slices::after;
-use crate::slices::part;
-use endian::Number;
+use crate::show::say_refusal;
 use identifier::Split;
 use primary::BlockRead;
 use primary::DeleteRead;
@@ -13,29 +10,23 @@ use primary::VersionRead;
 use records::AtPlace;
 use records::Kind;
 use records::Record;
+use slices::Place;
 
-fn say_refusal(number: u8) {
-    say_number(number as usize);
-}
-
-fn composite(text: &[u8]) {
+// Where the slash is, and the identifier.
+pub(crate) fn composite(text: &[u8]) {
     match identifier::split_composite(text) {
-        Split::Slash(n) => {
-            say(b"slash ");
-            say_number(n);
-        }
-        Split::Malformed => say(b"malformed"),
+        Split::Slash(n) => say_number(b'/', n),
+        Split::Malformed => say_refusal(18),
     }
-    say(b" read ");
     let r = identifier::read_composite(text);
     if r.valid {
         show::say_identifier(r.id);
     } else {
-        say(b"malformed");
+        say_refusal(18);
     }
 }
 
-fn header(s: &[u8]) {
+pub(crate) fn header(s: &[u8]) {
     match value::read(s) {
         value::Reading::Told(t) => show::say_told(t),
         value::Reading::Refused(f) => say_refusal(value::number(f)),
@@ -46,30 +37,27 @@ fn header(s: &[u8]) {
 fn say_part(s: &[u8], t: Texts, kind: Kind) {
     show::say_texts(s, t);
     match kind {
-        Kind::Block => say(b" block"),
-        Kind::Version(deleted) => show::say_flag(b" d", deleted),
-        Kind::VersionDelete(id) => {
-            say(b" by ");
-            show::say_text(s, id);
-        }
+        Kind::Block => (),
+        Kind::Version(deleted) => say_number(b'd', deleted as usize),
+        Kind::VersionDelete(id) => show::say_text_in(b'?', s, id),
     }
 }
 
-fn block(s: &[u8]) {
+pub(crate) fn block(s: &[u8]) {
     match primary::read_block(s) {
         BlockRead::Read(t) => say_part(s, t, Kind::Block),
         BlockRead::Fault(f) => say_refusal(primary::number(f)),
     }
 }
 
-fn version(s: &[u8]) {
+pub(crate) fn version(s: &[u8]) {
     match primary::read_version(s) {
         VersionRead::Read(t, deleted) => say_part(s, t, Kind::Version(deleted)),
         VersionRead::Fault(f) => say_refusal(primary::number(f)),
     }
 }
 
-fn version_delete(s: &[u8]) {
+pub(crate) fn version_delete(s: &[u8]) {
     match primary::read_delete(s) {
         DeleteRead::Read(t, id) => say_part(s, t, Kind::VersionDelete(id)),
         DeleteRead::Fault(f) => say_refusal(primary::number(f)),
@@ -77,38 +65,28 @@ fn version_delete(s: &[u8]) {
 }
 
 fn say_record(value: &[u8], r: Record) {
-    let told = r.told;
     let kind = r.kind;
-    let p = told.primary;
-    say_part(part(value, p.start, p.len), r.identifier, kind);
-    say(b" ");
-    show::say_told(told);
+    say_part(value::primary(value), r.identifier, kind);
+    show::say_told(r.told);
 }
 
-// The bytes are the tag and the value.
-fn record(s: &[u8]) {
-    let Number::Read(tag) = endian::read_big(s, 0, 2) else {
-        return;
-    };
-    let value = after(s, 1);
+pub(crate) fn record(value: &[u8], tag: usize) {
     match records::read((tag % 65536) as u16, value) {
         records::Reading::Record(r) => say_record(value, r),
         records::Reading::Refused(f) => say_refusal(records::number(f)),
     }
 }
 
+// Where the value lies, and the record.
 fn say_placed(pack: &[u8], r: Record, start: usize, len: usize) {
-    say_record(part(pack, start, len), r);
-    say(b" value ");
-    say_number(start);
-    say(b" ");
-    say_number(len);
+    say_number(b'@', start);
+    say_number(b'l', len);
+    say_record(slices::part(pack, Place { start, len }), r);
 }
 
 fn say_refusal_at(number: u8, place: usize) {
     say_refusal(number);
-    say(b" at ");
-    say_number(place);
+    say_number(b'@', place);
 }
 
 pub(crate) fn at_place(pack: &[u8], place: usize) {
@@ -118,39 +96,5 @@ pub(crate) fn at_place(pack: &[u8], place: usize) {
         AtPlace::TooLong => say_refusal_at(1, 0),
         AtPlace::Fault(f, at) => say_refusal_at(tlv::number(f), at),
         AtPlace::Refused(f) => say_refusal(records::number(f)),
-    }
-}
-
-// The bytes are the place, in 8 bytes, and the pack.
-fn at(s: &[u8]) {
-    let Number::Read(place) = endian::read_big(s, 0, 8) else {
-        return;
-    };
-    at_place(after(s, 7), place as usize);
-}
-
-fn run_part(kind: &[u8], bytes: &[u8]) {
-    if endian::same_bytes(kind, b"block") {
-        block(bytes);
-    } else if endian::same_bytes(kind, b"version") {
-        version(bytes);
-    } else if endian::same_bytes(kind, b"delete") {
-        version_delete(bytes);
-    } else {
-        say(b"no such kind");
-    }
-}
-
-pub(crate) fn run(kind: &[u8], bytes: &[u8]) {
-    if endian::same_bytes(kind, b"identifier") {
-        composite(bytes);
-    } else if endian::same_bytes(kind, b"value") {
-        header(bytes);
-    } else if endian::same_bytes(kind, b"record") {
-        record(bytes);
-    } else if endian::same_bytes(kind, b"at") {
-        at(bytes);
-    } else {
-        run_part(kind, bytes);
     }
 }

@@ -1,9 +1,10 @@
-// What is found, printed.
-use crate::slices::part;
+// What is found, printed: numbers and texts behind a letter. `v`, `e`, `s`, `c`, `z` and `d` are keys
+// of the format; `u`, `b` and `o` ULID, bucket and object, `?` a delete identifier; `@` is a place,
+// `l` a length, `n` a count.
 use identifier::Identifier;
 use libc::STDOUT_FILENO;
-use primary::Text;
 use primary::Texts;
+use slices::Place;
 use value::Part;
 use value::Told;
 
@@ -11,93 +12,56 @@ pub(crate) fn say(text: &[u8]) {
     io::write_all(STDOUT_FILENO, text);
 }
 
-pub(crate) fn say_number(n: usize) {
+fn say_letter(letter: u8) {
+    let label = [b' ', letter, b' '];
+    say(&label);
+}
+
+pub(crate) fn say_number(letter: u8, n: usize) {
+    say_letter(letter);
     io::print_decimal(STDOUT_FILENO, n as u64);
 }
 
-// A byte as it is where it is printable and no backslash, else in hex.
-fn say_byte(b: u8) {
-    let one = [b; 1];
-    if (b < 0x21) | (b > 0x7e) | (b == b'\\') {
-        say(b"\\x");
-        io::print_hex(STDOUT_FILENO, b as u64, 2);
-    } else {
-        say(&one);
-    }
+pub(crate) fn say_refusal(number: u8) {
+    say(b" refused ");
+    io::print_decimal(STDOUT_FILENO, number as u64);
 }
 
-pub(crate) fn say_bytes(s: &[u8]) {
-    let mut i = 0;
-    while i < s.len() {
-        say_byte(s[i]);
-        i += 1;
-    }
+fn say_text(letter: u8, text: &[u8]) {
+    say_letter(letter);
+    say(text);
 }
 
-pub(crate) fn say_hash(s: &[u8]) {
-    io::print_hex(STDOUT_FILENO, xxh64::xxh64(s), 16);
+pub(crate) fn say_text_in(letter: u8, s: &[u8], t: Place) {
+    say_text(letter, slices::part(s, t));
 }
 
-// A text with its length before it.
-fn say_counted(s: &[u8]) {
-    say(b" ");
-    say_number(s.len());
-    say(b" ");
-    say_bytes(s);
-}
-
-fn text_in(s: &[u8], t: Text) -> &[u8] {
-    part(s, t.start, t.len)
-}
-
-// The texts of an identifier: the ULID, and bucket and object with their lengths.
 pub(crate) fn say_texts(s: &[u8], t: Texts) {
-    say_text(s, t.ulid);
-    say_counted(text_in(s, t.bucket));
-    say_counted(text_in(s, t.object));
-}
-
-pub(crate) fn say_text(s: &[u8], t: Text) {
-    say_bytes(text_in(s, t));
+    say_text_in(b'u', s, t.ulid);
+    say_text_in(b'b', s, t.bucket);
+    say_text_in(b'o', s, t.object);
 }
 
 pub(crate) fn say_identifier(id: Identifier) {
     let ulid = id.ulid;
     let bucket = id.bucket;
     let object = id.object;
-    say_bytes(&ulid);
-    say_counted(part(&bucket, 0, id.bucketlen));
-    say_counted(part(&object, 0, id.objectlen));
+    say_text(b'u', &ulid);
+    say_text(b'b', slices::front(&bucket, id.bucketlen));
+    say_text(b'o', slices::front(&object, id.objectlen));
 }
 
-pub(crate) fn say_flag(name: &[u8], set: bool) {
-    say(name);
-    if set {
-        say(b" yes");
-    } else {
-        say(b" no");
-    }
+fn say_part(letter: u8, p: Part) {
+    say_number(letter, p.start);
+    say_number(b'l', p.len);
+    say_number(b'c', p.compression as usize);
+    say_number(b'z', p.encrypted as usize);
 }
 
-fn say_part(p: Part) {
-    say_number(p.start);
-    say(b" ");
-    say_number(p.len);
-    say(b" c ");
-    io::print_decimal(STDOUT_FILENO, p.compression);
-    say_flag(b" z", p.encrypted);
-}
-
-// What a value tells: `v`, and for each part its start, its length, `c`, and whether `z` is there.
+// What a value tells: `v`, the primary part, how many maps stand in `s`, and the secondary part.
 pub(crate) fn say_told(t: Told) {
-    say(b"v ");
-    io::print_decimal(STDOUT_FILENO, t.version);
-    say(b" primary ");
-    say_part(t.primary);
-    if t.present {
-        say(b" secondary ");
-    } else {
-        say(b" absent ");
-    }
-    say_part(t.secondary);
+    say_number(b'v', t.version as usize);
+    say_part(b'e', t.primary);
+    say_number(b's', t.present as usize);
+    say_part(b'@', t.secondary);
 }

@@ -1,144 +1,85 @@
-// The kinds of vectors that write into the program's buffer. It keeps its content from one vector to
-// the next, so that later records follow earlier ones.
-ghost use Prim.Native.Nat.{_≤_};
+// The kinds of vectors that write. The vector's bytes are what is handed in.
+ghost use mathlib.Core.Path.{_≡_};
+ghost use lib.ListN.{length};
+use crate::input::read_field;
+use crate::input::read_number;
 use crate::readings;
-use crate::show;
 use crate::show::say;
-use crate::slices::before;
-use crate::slices::from;
-use crate::slices::part;
-use endian::Number;
+use crate::show::say_number;
+use crate::show::say_refusal;
 use identifier::Identifier;
+use libc::STDOUT_FILENO;
 use writer::Written;
 
-// The number in the 8 bytes at a place.
-fn number(s: &[u8], at: usize) -> usize {
-    let Number::Read(n) = endian::read_big(s, at, 8) else {
-        return 0;
-    };
-    n as usize
-}
+const BLOCK: usize = 7;
 
-fn least(n: usize, limit: usize) -> usize
-    ensures { λ r. ⌜ r ≤ limit ⌝ }
-{
-    if n < limit { n } else { limit }
-}
+const VERSION: usize = 8;
 
-// How many bytes of a bucket and of an object stand in a vector: as many as an identifier holds, also
-// where the length that it tells is out of range.
-fn bucket_size(s: &[u8]) -> usize
-    ensures { λ r. ⌜ r ≤ 63 ⌝ }
-{
-    least(number(s, 26), 63)
-}
+const DELETE: usize = 9;
 
-fn object_size(s: &[u8]) -> usize
-    ensures { λ r. ⌜ r ≤ 1024 ⌝ }
-{
-    least(number(s, 34), 1024)
-}
-
-// The ULID, the lengths of bucket and object, in 8 bytes each, then bucket and object. Slashes follow
-// them in the arrays, where they play no part.
-fn identifier_in(s: &[u8]) -> Identifier {
-    let n = bucket_size(s);
-    let m = object_size(s);
+// ULID, bucket and object, with slashes behind them in the arrays, where they play no part; and the
+// lengths told of bucket and object, which may be wrong.
+fn read_identifier() -> Identifier {
     let mut ulid = [b'/'; 26];
     let mut bucket = [b'/'; 63];
     let mut object = [b'/'; 1024];
-    let _ = endian::write_bytes(&mut ulid, 0, part(s, 0, 26));
-    let _ = endian::write_bytes(&mut bucket, 0, part(s, 42, n));
-    let _ = endian::write_bytes(&mut object, 0, part(s, 42 + n, m));
+    read_field(&mut ulid);
+    read_field(&mut bucket);
+    read_field(&mut object);
     Identifier {
         ulid,
         bucket,
-        bucketlen: number(s, 26),
+        bucketlen: read_number(),
         object,
-        objectlen: number(s, 34),
+        objectlen: read_number(),
     }
 }
 
-// What follows the identifier.
-fn given(s: &[u8]) -> &[u8] {
-    from(s, 42 + bucket_size(s) + object_size(s))
-}
-
-// A block of so many bytes `d`, more than a vector holds.
-fn long_block(out: &mut [u8], used: usize, s: &[u8]) -> Written {
-    let content = [b'd'; 65536];
-    let n = number(given(s), 0);
-    writer::write_block(out, used, identifier_in(s), before(&content, n))
-}
-
-// A version whose primary part has so many bytes: those that are given, and then `d` throughout.
-fn long_version(out: &mut [u8], used: usize, s: &[u8]) -> Written {
-    let mut content = [b'd'; 65536];
-    let _ = endian::write_bytes(&mut content, 0, from(s, 8));
-    writer::write_version(out, used, before(&content, number(s, 0)))
-}
-
-fn written_part(kind: &[u8], out: &mut [u8], used: usize, s: &[u8]) -> Written {
-    if endian::same_bytes(kind, b"write_version") {
-        writer::write_version(out, used, s)
-    } else if endian::same_bytes(kind, b"write_long_version") {
-        long_version(out, used, s)
-    } else {
-        writer::write_delete(out, used, s)
+fn write(kind: usize, out: &mut [u8], used: usize, s: &[u8]) -> Written {
+    match kind {
+        BLOCK => writer::write_block(out, used, read_identifier(), s),
+        VERSION => writer::write_version(out, used, s),
+        DELETE => writer::write_delete(out, used, s),
+        _ => writer::write_delete_of(out, used, read_identifier(), s),
     }
 }
 
-fn written(kind: &[u8], out: &mut [u8], used: usize, s: &[u8]) -> Written {
-    if endian::same_bytes(kind, b"write_block") {
-        writer::write_block(out, used, identifier_in(s), given(s))
-    } else if endian::same_bytes(kind, b"write_long_block") {
-        long_block(out, used, s)
-    } else if endian::same_bytes(kind, b"write_delete_of") {
-        writer::write_delete_of(out, used, identifier_in(s), given(s))
-    } else {
-        written_part(kind, out, used, s)
-    }
-}
-
-// The record at the end of a pack: its bytes, or of a long one the hash; and what it reads as.
-fn say_last(pack: &[u8], place: usize) {
-    let record = from(pack, place);
-    if record.len() < 256 {
-        show::say_bytes(record);
-    } else {
-        show::say_hash(record);
-    }
-    say(b" reads ");
-    readings::at_place(pack, place);
-}
-
+// The count, and what the record reads as in the pack of that length; and the hash of the whole buffer.
 fn say_written(buffer: &[u8], used: usize, w: Written) {
     match w {
         Written::Count(n) => {
-            show::say_number(n);
-            say(b" ");
-            say_last(before(buffer, n), used);
+            say_number(b'n', n);
+            readings::at_place(slices::front(buffer, n), used);
         }
-        Written::Short => say(b"19"),
-        Written::Inadmissible => say(b"20"),
+        Written::Short => say_refusal(19),
+        Written::Inadmissible => say_refusal(20),
     }
     say(b" buffer ");
-    show::say_hash(buffer);
+    io::print_hex(STDOUT_FILENO, xxh64::xxh64(buffer), 16);
 }
 
 // Lends the front of the buffer.
-fn call(kind: &[u8], buffer: &mut [u8], room: usize, used: usize, s: &[u8]) -> Written {
+fn write_to(kind: usize, buffer: &mut [u8], s: &[u8]) {
+    let room = read_number();
+    let used = read_number();
     if room <= buffer.len() {
-        written(kind, &mut buffer[0..room], used, s)
-    } else {
-        written(kind, buffer, used, s)
+        let w = write(kind, &mut buffer[0..room], used, s);
+        say_written(buffer, used, w);
     }
 }
 
-// The bytes are how much of the buffer is lent and the count so far, in 8 bytes each, and what is to
-// be written.
-pub(crate) fn run(kind: &[u8], bytes: &[u8], buffer: &mut [u8]) {
-    let used = number(bytes, 8);
-    let w = call(kind, buffer, number(bytes, 0), used, from(bytes, 16));
-    say_written(buffer, used, w);
+// Longer than a large buffer, for records whose content alone has 65,536 bytes. In a function of its
+// own, so that no other proof sees through it.
+fn output() -> [u8; 70000]
+    ensures { λ r. ⌜ 70000 ≡ length r ⌝ }
+{
+    [0xa5; 70000]
+}
+
+// Behind the bytes follow the pack so far, how much of the buffer is lent, the count so far, and the
+// identifier of the kinds that take one.
+pub(crate) fn run(kind: usize, s: &[u8]) {
+    let mut buffer = output();
+    read_field(&mut buffer);
+    write_to(kind, &mut buffer, s);
 }

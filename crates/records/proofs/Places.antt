@@ -4,10 +4,11 @@ use mathlib.Core.Bool.{Bool}
 use mathlib.Core.List.{List}
 use mathlib.Core.Path.{_≡_, subst}
 use lib.ListN.{length, take, drop}
+use Rattle.slices.specs.Logic.{absurd-numbers}
+use Rattle.slices.specs.Places.{Inside}
+use Rattle.slices.specs.declared.Place.{Place}
 use Rattle.tlv.specs.declared.Fault as tlv
-use Rattle.msgpack.specs.HeadLaws.{absurd-numbers}
-use Rattle.primary.specs.Answers.{Inside, AllInside}
-use Rattle.primary.specs.declared.Text.{Text}
+use Rattle.primary.specs.Answers.{AllInside}
 use Rattle.primary.specs.declared.Texts.{Texts}
 use Rattle.primary.specs.declared.Fault as primary
 use Rattle.records.specs.Record.{primaryIn}
@@ -29,7 +30,7 @@ module _ (part : List ℕ) where
   version-kind : (deleted : Bool) → KindInside part (Version deleted)
   version-kind deleted = record { delete-id = λ id e. absurd-numbers (cc) }
 
-  delete-kind : (id : Text) → Inside part id → KindInside part (VersionDelete id)
+  delete-kind : (id : Place) → Inside part id → KindInside part (VersionDelete id)
   delete-kind id h = record { delete-id = λ other e. let same : id ≡ other = cc in subst (λ t. Inside part t) same h }
 
   read-inside : (t : Texts) (k : Kind) → ContentsInside part t k → PartInside part (part-answer.Read t k)
@@ -43,7 +44,7 @@ module _ (part : List ℕ) where
   pub version-inside : (t : Texts) (deleted : Bool) → AllInside part t → PartInside part (part-answer.Read t (Version deleted))
   version-inside t deleted h = read-inside t (Version deleted) (record { identifier = h; kind = version-kind deleted })
 
-  pub delete-inside : (t : Texts) (id : Text) → AllInside part t → Inside part id → PartInside part (part-answer.Read t (VersionDelete id))
+  pub delete-inside : (t : Texts) (id : Place) → AllInside part t → Inside part id → PartInside part (part-answer.Read t (VersionDelete id))
   delete-inside t id h i = read-inside t (VersionDelete id) (record { identifier = h; kind = delete-kind id i })
 
   pub none-inside : (f : primary.Fault) → PartInside part (part-answer.Refused f)

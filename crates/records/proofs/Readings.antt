@@ -8,13 +8,14 @@ use borrow.Author.Tests.{eq-eqb, ne-eqb, le-leb, lt-leb, le-ltb, lt-ltb}
 use lib.Dec.{eqb}
 use lib.ListN.{length, take, drop}
 use lib.Seq.{drop-drop}
-use Rattle.tlv.specs.Found.{lowest, Found, step}
+use Rattle.refusals.specs.Sheet.{lowest}
+use Rattle.refusals.specs.Answers.{Answer, refused, result, unless}
+use Rattle.tlv.specs.Found.{Found, step}
 use Rattle.value.specs.declared.Told.{Told}
-use Rattle.primary.specs.Parts.{Answer, refused, read}
 use Rattle.primary.specs.Answers.{numberOf}
 use Rattle.primary.specs.declared.Fault.{Fault}
 use Rattle.primary.specs.declared.Texts.{Texts}
-use Rattle.records.specs.Record.{isKnown, contents, toldRows, primaryIn, withTold, unless, alone, refusedAt, byStep, recordAt}
+use Rattle.records.specs.Record.{isKnown, contents, toldRows, primaryIn, withTold, alone, refusedAt, byStep, recordAt}
 use Rattle.records.specs.Answers.{partOf, recordIn, ContentsInside, PartInside}
 use Rattle.records.specs.declared.Kind.{Kind}
 use Rattle.records.specs.declared.PartRead.{PartRead}
@@ -33,7 +34,7 @@ module _ (s : List ℕ) (told : Told) where
     answered : partOf (primaryIn s told) r ≡ contents tag (primaryIn s told)
     answered = rw lent-is at answer
 
-    pub record-read : (t : Texts) (k : Kind) → r ≡ Read t k → read (recordIn s (record { told = told; identifier = t; kind = k })) ≡ withTold told (contents tag (primaryIn s told))
+    pub record-read : (t : Texts) (k : Kind) → r ≡ Read t k → result (recordIn s (record { told = told; identifier = t; kind = k })) ≡ withTold told (contents tag (primaryIn s told))
     record-read t k e = ap (withTold told) (sym (ap (partOf (primaryIn s told)) e) ∙ answered)
 
     pub part-refused : (f : Fault) → r ≡ Refused f → refused (numberOf f) ≡ withTold told (contents tag (primaryIn s told))

@@ -3,12 +3,13 @@ use Prim.Native.Nat.{ℕ, _+_, _≤_}
 use mathlib.Core.List.{List}
 use mathlib.Core.Path.{_≡_}
 use lib.ListN.{length, take, drop}
+use Rattle.slices.specs.Places.{partAt, Inside}
+use Rattle.slices.specs.declared.Place.{Place}
+use Rattle.refusals.specs.Answers.{Answer, refused, result}
 use Rattle.tlv.specs.Found as tlv
 use Rattle.value.specs.Reading as value
-use Rattle.primary.specs.Parts.{Answer, refused, read}
 use Rattle.primary.specs.Answers as primary
-use Rattle.primary.specs.Answers.{textIn, textsIn, Inside, AllInside}
-use Rattle.primary.specs.declared.Text.{Text}
+use Rattle.primary.specs.Answers.{textsIn, AllInside}
 use Rattle.primary.specs.declared.Texts.{Texts}
 use Rattle.records.specs.Record.{Kind, block, version, versionDelete, Contents, Record, primaryIn, AtPlace, there, refusedAt, alone}
 use Rattle.records.specs.declared.Kind as declared-kind
@@ -36,13 +37,13 @@ numberOf (Primary f) = primary.numberOf f
 abbrev pub kindIn : List ℕ → declared-kind.Kind → Kind
 kindIn part kind-answer.Block = block
 kindIn part (kind-answer.Version deleted) = version deleted
-kindIn part (kind-answer.VersionDelete id) = versionDelete (textIn part id)
+kindIn part (kind-answer.VersionDelete id) = versionDelete (partAt part id)
 
 abbrev pub contentsIn : List ℕ → Texts → declared-kind.Kind → Contents
 contentsIn part t k = record { identifier = textsIn part t; kind = kindIn part k }
 
 abbrev pub partOf : List ℕ → PartRead → Answer Contents
-partOf part (part-answer.Read t k) = read (contentsIn part t k)
+partOf part (part-answer.Read t k) = result (contentsIn part t k)
 partOf part (part-answer.Refused f) = refused (primary.numberOf f)
 
 -- in the value
@@ -50,7 +51,7 @@ abbrev pub recordIn : List ℕ → declared-record.Record → Record
 recordIn s r = record { told = r .told; contents = contentsIn (primaryIn s (r .told)) (r .identifier) (r .kind) }
 
 abbrev pub answerOf : List ℕ → Reading → Answer Record
-answerOf s (reading-answer.Record r) = read (recordIn s r)
+answerOf s (reading-answer.Record r) = result (recordIn s r)
 answerOf s (reading-answer.Refused f) = refused (numberOf f)
 
 -- in the pack
@@ -64,7 +65,7 @@ placeOf s (place-answer.Refused f) = alone (numberOf f)
 -- ---- the places told lie inside
 
 pub record KindInside (part : List ℕ) (k : declared-kind.Kind) : Type 0 where
-  pub delete-id : (id : Text) → k ≡ kind-answer.VersionDelete id → Inside part id
+  pub delete-id : (id : Place) → k ≡ kind-answer.VersionDelete id → Inside part id
 
 pub record ContentsInside (part : List ℕ) (t : Texts) (k : declared-kind.Kind) : Type 0 where
   pub identifier : AllInside part t
@@ -79,4 +80,5 @@ pub record RecordInside (s : List ℕ) (r : Reading) : Type 0 where
 -- the value in the pack, and in it the contents
 pub record PlaceInside (s : List ℕ) (r : declared-place.AtPlace) : Type 0 where
   pub value : (d : declared-record.Record) (start len : ℕ) → r ≡ place-answer.Record d start len → start + len ≤ length s
-  pub contents : (d : declared-record.Record) (start len : ℕ) → r ≡ place-answer.Record d start len → ContentsInside (primaryIn (take len (drop start s)) (d .told)) (d .identifier) (d .kind)
+  pub contents : (d : declared-record.Record) (start len : ℕ) → r ≡ place-answer.Record d start len
+      → ContentsInside (primaryIn (take len (drop start s)) (d .told)) (d .identifier) (d .kind)

@@ -1,17 +1,17 @@
 -- One record: what its tag and value tell, and what stands at a place of a pack; refusals 1 to 18, and 20, of document 01.
 use Prim.Native.Nat.{ℕ}
-use mathlib.Core.Bool.{Bool, true, false, cond, not, _||_}
+use mathlib.Core.Bool.{Bool, cond, not, _||_}
 use mathlib.Core.List.{List, [], _∷_}
-use mathlib.Core.Option.{Option, none, some}
 use lib.Dec.{ltb, leb, eqb}
 use lib.ListN.{length, take, drop}
-use Rattle.tlv.specs.Found.{Row, lowest, Found, end, found, fault, step}
+use Rattle.refusals.specs.Sheet.{Row, lowest}
+use Rattle.refusals.specs.Answers.{Answer, refused, result, isResult, unless}
+use Rattle.tlv.specs.Found.{Found, end, found, fault, step}
 use Rattle.tlv.specs.declared.RecordHeader.{RecordHeader}
+use Rattle.identifier.specs.Identity.{Identity}
 use Rattle.value.specs.Reading as value
 use Rattle.value.specs.declared.Told.{Told}
-use Rattle.identifier.specs.Identity.{Identity}
 use Rattle.primary.specs.Parts as primary
-use Rattle.primary.specs.Parts.{Answer, refused, read}
 
 -- ---- tags: two letters, as one number
 
@@ -40,15 +40,15 @@ pub record Contents : Type 0 where
   pub kind : Kind
 
 abbrev pub ofBlock : Answer Identity → Answer Contents
-ofBlock (read i) = read (record { identifier = i; kind = block })
+ofBlock (result i) = result (record { identifier = i; kind = block })
 ofBlock (refused n) = refused n
 
 abbrev pub ofVersion : Answer primary.Version → Answer Contents
-ofVersion (read v) = read (record { identifier = v .identifier; kind = version (v .deleted) })
+ofVersion (result v) = result (record { identifier = v .identifier; kind = version (v .deleted) })
 ofVersion (refused n) = refused n
 
 abbrev pub ofVersionDelete : Answer primary.VersionDelete → Answer Contents
-ofVersionDelete (read v) = read (record { identifier = v .identifier; kind = versionDelete (v .deleteId) })
+ofVersionDelete (result v) = result (record { identifier = v .identifier; kind = versionDelete (v .deleteId) })
 ofVersionDelete (refused n) = refused n
 
 -- the primary part of a record with this tag, which is a known one
@@ -76,16 +76,12 @@ abbrev pub primaryIn : List ℕ → Told → List ℕ
 primaryIn s t = take (t .primary .len) (drop (t .primary .start) s)
 
 abbrev pub withTold : Told → Answer Contents → Answer Record
-withTold t (read c) = read (record { told = t; contents = c })
+withTold t (result c) = result (record { told = t; contents = c })
 withTold t (refused n) = refused n
 
-abbrev pub unless : {A : Type 0} → Option ℕ → Answer A → Answer A
-unless none next = next
-unless (some n) next = refused n
-
-abbrev pub byValue : ℕ → List ℕ → value.Answer → Answer Record
-byValue tag s (value.told t) = unless (lowest (toldRows tag t)) (withTold t (contents tag (primaryIn s t)))
-byValue tag s (value.refused n) = refused n
+abbrev pub byValue : ℕ → List ℕ → Answer Told → Answer Record
+byValue tag s (result t) = unless (lowest (toldRows tag t)) (withTold t (contents tag (primaryIn s t)))
+byValue tag s (refused n) = refused n
 
 -- the record with this tag and the value s, in which a secondary part has at most `limit` bytes
 unfoldable pub readRecord : ℕ → ℕ → List ℕ → Answer Record
@@ -93,12 +89,8 @@ readRecord limit tag s = byValue tag s (value.reading limit s)
 
 -- ---- document 01's "can be read", of a version or version delete: none of 9 to 12 and 14 to 18 applies
 
-abbrev pub isRead : {A : Type 0} → Answer A → Bool
-isRead (read a) = true
-isRead (refused n) = false
-
 unfoldable pub canBeRead : ℕ → ℕ → List ℕ → Bool
-canBeRead limit tag s = isRead (readRecord limit tag s)
+canBeRead limit tag s = isResult (readRecord limit tag s)
 
 -- ---- the record at a place of a pack
 
@@ -109,7 +101,7 @@ pub data AtPlace : Type 0 where
   alone : (number : ℕ) → AtPlace
 
 abbrev pub atPlace : List ℕ → Answer Record → AtPlace
-atPlace value (read r) = there value r
+atPlace value (result r) = there value r
 atPlace value (refused n) = alone n
 
 -- the value of a record with this header at a place

@@ -3,16 +3,17 @@
 ghost use mathlib.Core.Path.{_≡_};
 ghost use Prim.Native.Nat.{_+_, _-_, _≤_};
 ghost use lib.ListN.{length, take, drop};
-ghost use Rattle.tlv.specs.Found.{lowest};
-ghost use Rattle.pack.specs.Reading.{packLimit};
+ghost use Rattle.refusals.specs.Sheet.{lowest};
+ghost use Rattle.refusals.specs.Limit.{packLimit};
+ghost use Rattle.refusals.specs.Answers.{unless};
 ghost use Rattle.primary.specs.Parts.{block, version, versionDelete};
-ghost use Rattle.records.specs.Record.{isKnown, ofBlock, ofVersion, ofVersionDelete, contents, toldRows, primaryIn, withTold, unless, readRecord, atPlace, recordAt};
+ghost use Rattle.records.specs.Record.{isKnown, ofBlock, ofVersion, ofVersionDelete, contents, toldRows, primaryIn, withTold, readRecord, atPlace, recordAt};
 ghost use Rattle.records.specs.Answers.{numberOf, partOf, answerOf, placeOf, PartInside, RecordInside, PlaceInside};
 use primary::BlockRead;
 use primary::DeleteRead;
-use primary::Text;
 use primary::Texts;
 use primary::VersionRead;
+use slices::Place;
 use tlv::RecordHeader;
 use tlv::Step;
 use value::Told;
@@ -55,7 +56,7 @@ pub enum Kind {
     // Whether it is a delete marker.
     Version(bool),
     // The delete identifier.
-    VersionDelete(Text),
+    VersionDelete(Place),
 }
 
 // What a record tells: its value's parts, as places of the value; and, as places of the primary part,
@@ -150,7 +151,8 @@ fn with_part(tag: u16, value: &[u8], told: Told) -> Reading
 // The tests come in the order of their numbers.
 fn by_told(tag: u16, value: &[u8], told: Told) -> Reading
     requires { ⌜ told .primary .start + told .primary .len ≤ length (now value) ⌝ }
-    ensures { λ r. ⌜ answerOf (now (value .entry)) r ≡ unless (lowest (toldRows tag told)) (withTold told (contents tag (primaryIn (now (value .entry)) told))) ⌝ }
+    ensures { λ r. ⌜ answerOf (now (value .entry)) r ≡ unless (lowest (toldRows tag told))
+        (withTold told (contents tag (primaryIn (now (value .entry)) told))) ⌝ }
     ensures inside { λ r. ⌜ RecordInside (now (value .entry)) r ⌝ }
 {
     let primary = told.primary;
@@ -199,7 +201,8 @@ pub enum AtPlace {
 // The record with this tag whose value stands at these places.
 fn read_between(tag: u16, pack: &[u8], start: usize, end: usize) -> AtPlace
     requires { ⌜ (start ≤ end) × (end ≤ length (now pack)) ⌝ }
-    ensures { λ r. ⌜ placeOf (now (pack .entry)) r ≡ atPlace (take (end - start) (drop start (now (pack .entry)))) (readRecord packLimit tag (take (end - start) (drop start (now (pack .entry))))) ⌝ }
+    ensures { λ r. ⌜ placeOf (now (pack .entry)) r ≡ atPlace (take (end - start) (drop start (now (pack .entry))))
+        (readRecord packLimit tag (take (end - start) (drop start (now (pack .entry))))) ⌝ }
     ensures inside { λ r. ⌜ PlaceInside (now (pack .entry)) r ⌝ }
 {
     match read(tag, &pack[start..end]) {

@@ -8,7 +8,7 @@ use native.Mathlib.Omega.{arith}
 use Rattle.msgpack_model.specs.Values.{Value, Binary, Array, Map, Values, no-values, value, Pairs, no-pairs, pair, depth, valuesDepth, pairsDepth, asBoolean, asInteger, asText, asBinary, asArray, asMap}
 use Rattle.msgpack_model.specs.Encoding.{Encodes}
 use Rattle.msgpack_model.specs.Unique.{one-value}
-use Rattle.msgpack_model.specs.Lookup.{isText, keyIs, lookupFrom, lookup, timesKey}
+use Rattle.msgpack_model.specs.Lookup.{isText, keyIs, lastFrom, lastIn, timesKey}
 
 -- the least such relation: a swap of neighbours, anywhere and as often as wanted, makes every order
 mutual
@@ -56,7 +56,8 @@ same-depth x = elim x as (λ v w y. depth v ≡ depth w) (λ vs ws y. valuesDept
 ]
 
 -- what is one and the same for all bytes, for all arrays, and for all maps
-same-of : {A : Type 0} (f : Value → A) → ((e d : List ℕ) → f (Binary e) ≡ f (Binary d)) → ((vs ws : Values) → f (Array vs) ≡ f (Array ws)) → ((ps qs : Pairs) → f (Map ps) ≡ f (Map qs))
+same-of : {A : Type 0} (f : Value → A) → ((e d : List ℕ) → f (Binary e) ≡ f (Binary d))
+    → ((vs ws : Values) → f (Array vs) ≡ f (Array ws)) → ((ps qs : Pairs) → f (Map ps) ≡ f (Map qs))
     → {v w : Value} → Alike v w → f v ≡ f w
 same-of f b a m (same v) = refl
 same-of f b a m (and-then x y) = same-of f b a m x ∙ same-of f b a m y
@@ -137,7 +138,8 @@ newer : {v w : Value} {o p : Option Value} (t : Bool) → Alike v w → Both Ali
 newer true x y = both x
 newer false x y = y
 
-apart : (s t : Bool) (v w : Value) {o p : Option Value} → cond {A = ℕ} s 1 0 + (cond t 1 0 + 0) ≤ 1 → Both Alike o p → Both Alike (cond t (some w) (cond s (some v) o)) (cond s (some v) (cond t (some w) p))
+apart : (s t : Bool) (v w : Value) {o p : Option Value} → cond {A = ℕ} s 1 0 + (cond t 1 0 + 0) ≤ 1 → Both Alike o p
+    → Both Alike (cond t (some w) (cond s (some v) o)) (cond s (some v) (cond t (some w) p))
 apart true true v w h x = absurd (omega arith)
 apart true false v w h x = both (same v)
 apart false true v w h x = both (same w)
@@ -153,17 +155,18 @@ module _ (key : List ℕ) where
   same-times (swapped k v l w ps) = omega arith
   same-times (and-further x y) = same-times x ∙ same-times y
 
-  same-pairs : (ps : Pairs) {o p : Option Value} → Both Alike o p → Both Alike (lookupFrom key ps o) (lookupFrom key ps p)
+  same-pairs : (ps : Pairs) {o p : Option Value} → Both Alike o p → Both Alike (lastFrom key ps o) (lastFrom key ps p)
   same-pairs no-pairs x = x
   same-pairs (pair k v ps) x = same-pairs ps (newer (keyIs key k) (same v) x)
 
   -- the last value, where one is known already
-  alike-from : {ps qs : Pairs} → AlikePairs ps qs → timesKey key ps ≤ 1 → {o p : Option Value} → Both Alike o p → Both Alike (lookupFrom key ps o) (lookupFrom key qs p)
+  alike-from : {ps qs : Pairs} → AlikePairs ps qs → timesKey key ps ≤ 1 → {o p : Option Value} → Both Alike o p
+      → Both Alike (lastFrom key ps o) (lastFrom key qs p)
   alike-from no-pairs-alike h x = x
   alike-from (next-pair {k = k} y z ys) h x = alike-from ys (omega arith) (rw (← same-key y) (newer (keyIs key k) z x))
   alike-from (swapped k v l w ps) h x = same-pairs ps (apart (keyIs key k) (keyIs key l) v w (omega arith) x)
   alike-from (and-further y z) h x = both-and (λ u v w. and-then) (alike-from y h x) (alike-from z (omega (arith, same-times y)) (both-same same _))
 
   -- where the key does not repeat
-  pub alike-lookup : {ps qs : Pairs} → AlikePairs ps qs → timesKey key ps ≤ 1 → Both Alike (lookup key ps) (lookup key qs)
+  pub alike-lookup : {ps qs : Pairs} → AlikePairs ps qs → timesKey key ps ≤ 1 → Both Alike (lastIn key ps) (lastIn key qs)
   alike-lookup x h = alike-from x h neither

@@ -7,10 +7,12 @@ use native.Mathlib.Omega.{arith}
 use borrow.Author.Tests.{leb-true, ltb-true}
 use lib.Dec.{leb, ltb}
 use lib.ListN.{length}
-use Rattle.endian.specs.Bytes.{AllBytes, none-bytes, cons-bytes, sameBytes}
+use Rattle.slices.specs.Bytes.{AllBytes, none-bytes, cons-bytes, sameBytes}
+use Rattle.slices.specs.Logic.{both}
+use Rattle.refusals.specs.Sheet.{lowest}
+use Rattle.refusals.specs.Answers.{Answer, refused, result, isResult}
 use Rattle.endian.specs.Numbers.{little, big, littleBytes, bigBytes}
 use Rattle.endian.specs.Places.{holds, numberAt}
-use Rattle.tlv.specs.Found.{lowest}
 use Rattle.msgpack.specs.Formats.{formats, formatOf}
 use Rattle.msgpack.specs.Items.{headOf, passItems, passHead, passItem}
 use Rattle.msgpack.specs.Readers.{isWhole, plus, integerOf, contentAt, readInteger, countAt}
@@ -20,21 +22,21 @@ use Rattle.msgpack_model.specs.Encoding.{fixstr, str8, bin8, bin16, fixarray, f
 use Rattle.msgpack_model.specs.Unique.{one-value}
 use Rattle.msgpack_model.specs.Lookup.{timesKey}
 use Rattle.msgpack_model.specs.Writers.{number-written}
+use Rattle.identifier.specs.Texts.{member, all}
+use Rattle.identifier.specs.Ulid.{alphabet, isCharacter, isUlid}
+use Rattle.identifier.specs.Identity.{sized, isBucket, isObject, identity, isValid, identityOf}
 use Rattle.value.specs.Header.{primaryKey, secondaryKey, lengthKey, compressionKey}
 use Rattle.value.specs.Fields.{readNatural, naturalUnder, bytesUnder, isThere}
 use Rattle.value.specs.Header as bytes
 use Rattle.value.specs.Reading.{reading}
-use Rattle.identifier.specs.Texts.{member, all, both}
-use Rattle.identifier.specs.Ulid.{alphabet, isCharacter, isUlid}
-use Rattle.identifier.specs.Identity.{sized, isBucket, isObject, identity, isValid, identityOf}
-use Rattle.primary.specs.Parts.{Answer, refused, read, bucketKey, objectKey, ulidKey, identifierKey, fills, textAt, textUnder, textsUnder, shapeAt, shapeUnder}
+use Rattle.primary.specs.Parts.{bucketKey, objectKey, ulidKey, identifierKey, fills, textAt, textUnder, textsUnder, shapeAt, shapeUnder}
 use Rattle.primary.specs.Parts as part
-use Rattle.records.specs.Record.{blockTag, isKnown, block, contents, toldRows, readRecord, isRead}
+use Rattle.records.specs.Record.{blockTag, isKnown, block, contents, toldRows, readRecord}
 use Rattle.records_model.specs.Alike.{Alike, same, maps, arrays, embedded, next as next-alike, no-values-alike, next-pair as next-pair-alike, no-pairs-alike, swapped, and-further}
 use Rattle.records_model.specs.Header.{coding, Telling, tellingAlone}
 use Rattle.records_model.specs.Record.{RecordHeld, recordIn}
 use Rattle.records_model.specs.NoRepeats.{OnceEach, NoRepeat, headerKeys, secondaryKeys, blockKeys, identityKeys, BlockNoRepeat, NoRepeats}
-use Rattle.records_model.specs.SameAnswer.{SameAnswer, same-refusal, both-read, SameRecord}
+use Rattle.records_model.specs.AnswersAlike.{AnswersAlike, same-refusal, both-read, SameRecord}
 use Rattle.records_model.specs.TwoSites.{records-alike}
 
 -- ---- texts in two widths
@@ -46,7 +48,9 @@ abbrev wide : List ℕ → List ℕ
 wide t = 0xd9 ∷ bigBytes 1 (length t) ++ t
 
 abbrev ulid : List ℕ
-ulid = 0x30 ∷ 0x30 ∷ 0x30 ∷ 0x30 ∷ 0x30 ∷ 0x30 ∷ 0x30 ∷ 0x30 ∷ 0x30 ∷ 0x30 ∷ 0x30 ∷ 0x30 ∷ 0x30 ∷ 0x30 ∷ 0x30 ∷ 0x30 ∷ 0x30 ∷ 0x30 ∷ 0x30 ∷ 0x30 ∷ 0x30 ∷ 0x30 ∷ 0x30 ∷ 0x30 ∷ 0x30 ∷ 0x31 ∷ []
+ulid =
+    0x30 ∷ 0x30 ∷ 0x30 ∷ 0x30 ∷ 0x30 ∷ 0x30 ∷ 0x30 ∷ 0x30 ∷ 0x30 ∷ 0x30 ∷ 0x30 ∷ 0x30 ∷ 0x30 ∷ 0x30 ∷ 0x30 ∷ 0x30 ∷ 0x30
+    ∷ 0x30 ∷ 0x30 ∷ 0x30 ∷ 0x30 ∷ 0x30 ∷ 0x30 ∷ 0x30 ∷ 0x30 ∷ 0x31 ∷ []
 
 abbrev herd : List ℕ
 herd = 0x68 ∷ 0x65 ∷ 0x72 ∷ 0x64 ∷ []
@@ -69,7 +73,8 @@ abbrev herePart : Value
 herePart = Map (pair (Text identifierKey) (Map hereIdentity) no-pairs)
 
 abbrev therePart : Value
-therePart = Map (pair (Text identifierKey) (Map (pair (Text objectKey) (Text scan) (pair (Text bucketKey) (Text herd) (pair (Text ulidKey) (Text ulid) no-pairs)))) no-pairs)
+therePart = Map (pair (Text identifierKey)
+    (Map (pair (Text objectKey) (Text scan) (pair (Text bucketKey) (Text herd) (pair (Text ulidKey) (Text ulid) no-pairs)))) no-pairs)
 
 abbrev herePartBytes : List ℕ
 herePartBytes = 0x81 ∷ narrow identifierKey ++ 0x83 ∷ narrow bucketKey ++ narrow herd ++ narrow objectKey ++ narrow scan ++ narrow ulidKey ++ narrow ulid
@@ -88,21 +93,26 @@ hereHeader = Map (pair (Text secondaryKey) (Array (value (Map hereSecondary) no-
 abbrev thereHeader : Value
 thereHeader =
     Map (pair (Text primaryKey) (Binary therePartBytes)
-    (pair (Text secondaryKey) (Array (value (Map (pair (Text compressionKey) (Integer (plus 7)) (pair (Text lengthKey) (Integer (plus 2)) no-pairs))) no-values)) no-pairs))
+    (pair (Text secondaryKey) (Array
+    (value (Map (pair (Text compressionKey) (Integer (plus 7)) (pair (Text lengthKey) (Integer (plus 2)) no-pairs))) no-values)) no-pairs))
 
 abbrev hereBytes : List ℕ
-hereBytes = 0x82 ∷ narrow secondaryKey ++ 0x91 ∷ 0x82 ∷ narrow lengthKey ++ 2 ∷ narrow compressionKey ++ 7 ∷ narrow primaryKey ++ 0xc4 ∷ length herePartBytes ∷ herePartBytes
+hereBytes = 0x82 ∷ narrow secondaryKey ++ 0x91 ∷ 0x82 ∷ narrow lengthKey ++ 2 ∷ narrow compressionKey ++ 7 ∷ narrow primaryKey
+    ++ 0xc4 ∷ length herePartBytes ∷ herePartBytes
 
 abbrev thereBytes : List ℕ
-thereBytes = 0x82 ∷ wide primaryKey ++ 0xc5 ∷ 0 ∷ length therePartBytes ∷ therePartBytes ++ narrow secondaryKey ++ 0x91 ∷ 0x82 ∷ narrow compressionKey ++ 7 ∷ narrow lengthKey ++ 0xcd ∷ 0 ∷ 2 ∷ []
+thereBytes = 0x82 ∷ wide primaryKey ++ 0xc5 ∷ 0 ∷ length therePartBytes ∷ therePartBytes ++ narrow secondaryKey
+    ++ 0x91 ∷ 0x82 ∷ narrow compressionKey ++ 7 ∷ narrow lengthKey ++ 0xcd ∷ 0 ∷ 2 ∷ []
 
 -- ---- a header with `c` twice: {e, c: 1, c: 0} and {e, c: 0, c: 1}
 
 abbrev twice : ℕ → ℕ → Value
-twice first last = Map (pair (Text primaryKey) (Binary herePartBytes) (pair (Text compressionKey) (Integer (plus first)) (pair (Text compressionKey) (Integer (plus last)) no-pairs)))
+twice first last = Map (pair (Text primaryKey) (Binary herePartBytes)
+    (pair (Text compressionKey) (Integer (plus first)) (pair (Text compressionKey) (Integer (plus last)) no-pairs)))
 
 abbrev twiceBytes : ℕ → ℕ → List ℕ
-twiceBytes first last = 0x83 ∷ narrow primaryKey ++ 0xc4 ∷ length herePartBytes ∷ herePartBytes ++ narrow compressionKey ++ first ∷ narrow compressionKey ++ last ∷ []
+twiceBytes first last = 0x83 ∷ narrow primaryKey ++ 0xc4 ∷ length herePartBytes ∷ herePartBytes ++ narrow compressionKey
+    ++ first ∷ narrow compressionKey ++ last ∷ []
 
 -- ---- what is read
 
@@ -111,7 +121,7 @@ answerTo s = recordIn s (readRecord limit blockTag s)
 
 abbrev answer : List ℕ → List ℕ → Telling → Answer RecordHeld
 answer primary secondary told =
-    read (record {
+    result (record {
       held = record { primary = primary; secondary = secondary; told = told };
       contents = record { identifier = identity ulid herd scan; kind = block };
     })
@@ -126,7 +136,11 @@ pub record Computed : Type 0 where
   pub last-is-1 : answerTo (twiceBytes 0 1) ≡ refused 15
 
 pub computed : Computed
-unfolding readRecord reading passItem passHead headOf numberAt holds formatOf passItems big little formats bytes.header bytes.alone bytes.withList bytes.withMap bytesUnder under lastValue lastWhere keyAt sameBytes contentAt isWhole naturalUnder readNatural readInteger integerOf isThere countAt lowest toldRows isKnown contents part.block fills shapeUnder shapeAt textAt textsUnder textUnder identityOf isValid isUlid isCharacter alphabet isBucket isObject sized member all bigBytes littleBytes
+unfolding readRecord reading passItem passHead headOf numberAt holds formatOf passItems big little formats bytes.header
+    bytes.alone bytes.withList bytes.withMap bytesUnder under lastValue lastWhere keyAt sameBytes contentAt isWhole
+    naturalUnder readNatural readInteger integerOf isThere countAt lowest toldRows isKnown contents part.block fills
+    shapeUnder shapeAt textAt textsUnder textUnder identityOf isValid isUlid isCharacter alphabet isBucket isObject
+    sized member all bigBytes littleBytes
 computed = record { here = refl; there = refl; last-is-0 = refl; last-is-1 = refl }
 
 -- ---- these are encodings
@@ -172,12 +186,14 @@ here-header =
     (array (fixarray 1 (omega arith)) (next
     (map (fixmap 2 (omega arith)) (next-pair (narrow-text lengthKey refl) (scalar (positive-fixint 2 (omega arith)))
     (next-pair (narrow-text compressionKey refl) (scalar (positive-fixint 7 (omega arith))) no-pair))) none))
-    (next-pair (narrow-text primaryKey refl) (scalar (binary (bin8 (number-written 1 (length herePartBytes) (omega arith))) (all-bytes herePartBytes refl))) no-pair))
+    (next-pair (narrow-text primaryKey refl)
+    (scalar (binary (bin8 (number-written 1 (length herePartBytes) (omega arith))) (all-bytes herePartBytes refl))) no-pair))
 
 there-header : Encodes thereHeader thereBytes
 unfolding isShort all bigBytes littleBytes
 there-header =
-    map (fixmap 2 (omega arith)) (next-pair (wide-text primaryKey refl) (scalar (binary (bin16 (number-written 2 (length therePartBytes) (omega arith))) (all-bytes therePartBytes refl)))
+    map (fixmap 2 (omega arith)) (next-pair (wide-text primaryKey refl)
+    (scalar (binary (bin16 (number-written 2 (length therePartBytes) (omega arith))) (all-bytes therePartBytes refl)))
     (next-pair (narrow-text secondaryKey refl)
     (array (fixarray 1 (omega arith)) (next
     (map (fixmap 2 (omega arith)) (next-pair (narrow-text compressionKey refl) (scalar (positive-fixint 7 (omega arith)))
@@ -187,7 +203,8 @@ there-header =
 pub twice-header : (first last : ℕ) → first < 128 → last < 128 → Encodes (twice first last) (twiceBytes first last)
 unfolding isShort all bigBytes littleBytes
 twice-header first last h l =
-    map (fixmap 3 (omega arith)) (next-pair (narrow-text primaryKey refl) (scalar (binary (bin8 (number-written 1 (length herePartBytes) (omega arith))) (all-bytes herePartBytes refl)))
+    map (fixmap 3 (omega arith)) (next-pair (narrow-text primaryKey refl)
+    (scalar (binary (bin8 (number-written 1 (length herePartBytes) (omega arith))) (all-bytes herePartBytes refl)))
     (next-pair (narrow-text compressionKey refl) (scalar (positive-fixint first h))
     (next-pair (narrow-text compressionKey refl) (scalar (positive-fixint last l)) no-pair)))
 
@@ -229,7 +246,7 @@ no-repeats = record {
       };
 }
 
-pub sites-read-alike : SameAnswer SameRecord (answerTo (hereBytes ++ secondary)) (answerTo (thereBytes ++ secondary))
+pub sites-read-alike : AnswersAlike SameRecord (answerTo (hereBytes ++ secondary)) (answerTo (thereBytes ++ secondary))
 sites-read-alike = records-alike limit blockTag here-header there-header sites-alike no-repeats secondary
 
 -- ---- without the premise it does not hold
@@ -237,9 +254,9 @@ sites-read-alike = records-alike limit blockTag here-header there-header sites-a
 pub twice-alike : Alike (twice 1 0) (twice 0 1)
 twice-alike = maps (next-pair-alike (same _) (same _) (swapped _ _ _ _ no-pairs))
 
-same-kind : {A : Type 0} {R : A → A → Type 0} {a b : Answer A} → SameAnswer R a b → isRead a ≡ isRead b
+same-kind : {A : Type 0} {R : A → A → Type 0} {a b : Answer A} → AnswersAlike R a b → isResult a ≡ isResult b
 same-kind (same-refusal n) = refl
 same-kind (both-read x) = refl
 
-pub order-matters : SameAnswer SameRecord (answerTo (twiceBytes 1 0)) (answerTo (twiceBytes 0 1)) → ⊥
+pub order-matters : AnswersAlike SameRecord (answerTo (twiceBytes 1 0)) (answerTo (twiceBytes 0 1)) → ⊥
 order-matters x = true≢false (rw (computed .last-is-0, computed .last-is-1) at (same-kind x))

@@ -5,12 +5,12 @@ use mathlib.Core.List.{List}
 use mathlib.Core.Option.{Option, none, some}
 use lib.Dec.{leb, eqb}
 use lib.ListN.{length}
+use Rattle.refusals.specs.Answers.{Answer, refused, result}
 use Rattle.msgpack.specs.Items.{depthAllowed}
 use Rattle.msgpack.specs.Lookup.{ifThere}
 use Rattle.msgpack_model.specs.Values.{Value, Values, no-values, value, depth, asInteger, asBinary, asArray}
 use Rattle.value.specs.Fields.{atLeastZero}
 use Rattle.value.specs.Header.{primaryKey, secondaryKey, lengthKey, compressionKey, encryptionKey, versionKey, onlyIf}
-use Rattle.primary.specs.Parts.{Answer, refused, read}
 use Rattle.records_model.specs.Under.{valueUnder, hasKey}
 
 -- ---- what a header tells beside the bytes under `e`
@@ -47,14 +47,14 @@ alone m =
 
 abbrev pub tellingWith : Telling → (length compression : ℕ) → Bool → Telling
 tellingWith t length compression encrypted =
-    record { version = t .version; primary = t .primary; present = true; length = length; secondary = coding compression (encrypted || t .secondary .encrypted) }
+    record { version = t .version; primary = t .primary; present = true; length = length; secondary = coding compression (encrypted || t .primary .encrypted) }
 
 -- with the secondary part of which the map m tells
 unfoldable pub withMap : ℕ → Telling → Value → Option Telling
 withMap limit t m =
     ifThere (valueUnder lengthKey m none naturalOf) λ l.
     onlyIf (leb l limit)
-    (ifThere (valueUnder compressionKey m (some (t .secondary .compression)) naturalOf) λ c.
+    (ifThere (valueUnder compressionKey m (some (t .primary .compression)) naturalOf) λ c.
     some (tellingWith t l c (hasKey encryptionKey m)))
 
 -- a list of no item, or of one map
@@ -89,7 +89,7 @@ pub record Held : Type 0 where
   pub told : Telling
 
 abbrev pub filledBy : List ℕ → Option Header → Answer Held
-filledBy rest (some h) = cond (eqb (h .told .length) (length rest)) (read (record { primary = h .primary; secondary = rest; told = h .told })) (refused 12)
+filledBy rest (some h) = cond (eqb (h .told .length) (length rest)) (result (record { primary = h .primary; secondary = rest; told = h .told })) (refused 12)
 filledBy rest none = refused 11
 
 unfoldable pub holds : ℕ → Value → List ℕ → Answer Held

@@ -9,11 +9,12 @@ use borrow.Author.Tests.{leb-true, leb-false, eq-eqb, ne-eqb, eqb-true, eqb-fals
 use lib.Dec.{leb, eqb}
 use lib.ListN.{length, take, drop, length-append}
 use lib.Seq.{drop-drop, take-append-seam, drop-append-seam}
+use Rattle.slices.specs.Logic.{absurd-numbers}
+use Rattle.refusals.specs.Answers.{Answer, refused, result}
 use Rattle.msgpack.specs.Items.{whole, depthAllowed}
 use Rattle.msgpack.specs.Readers.{content, contentOfPart, readBinary, Counted, counted}
 use Rattle.msgpack.specs.Readers as msgpack
 use Rattle.msgpack.specs.Lookup.{under, ifThere}
-use Rattle.msgpack.specs.HeadLaws.{absurd-numbers}
 use Rattle.msgpack_model.specs.Values.{Value, Values, countValues, depth, valuesDepth, asBinary, asArray}
 use Rattle.msgpack_model.specs.Encoding.{Encodes, EncodesValues}
 use Rattle.msgpack_model.specs.Encoding as encoding
@@ -27,7 +28,6 @@ use Rattle.value.specs.Reading as value-reading
 use Rattle.value.specs.Reading.{reading}
 use Rattle.value.specs.ReadingLaws.{primary-is, is-told, primary-content, secondary-content}
 use Rattle.value.specs.declared.Told.{Told}
-use Rattle.primary.specs.Parts.{Answer, refused, read}
 use Rattle.records_model.specs.Under.{over, valueUnder, hasKey, over-under, under-reads, there-reads}
 use Rattle.records_model.specs.Header.{Telling, coding, naturalOf, tellingAlone, alone, tellingWith, withMap, withItems, withList, telling, Header, header, Held, filledBy, holds}
 
@@ -56,9 +56,9 @@ heldIn s t =
       told = tellingOf t;
     }
 
-abbrev pub answerIn : List ℕ → value-reading.Answer → Answer Held
-answerIn s (value-reading.told t) = read (heldIn s t)
-answerIn s (value-reading.refused n) = refused n
+abbrev pub answerIn : List ℕ → (Answer Told) → Answer Held
+answerIn s (result t) = result (heldIn s t)
+answerIn s (refused n) = refused n
 
 -- ---- what is told of an answer that is there
 
@@ -96,7 +96,8 @@ module _ {v : Value} {e : List ℕ} (x : Encodes v e) (d : depth v ≤ depthAllo
       rw (q, natural-under compressionKey (some 0), natural-under versionKey (some 0))
       (by (valueUnder compressionKey v (some 0) naturalOf) (valueUnder versionKey v (some 0) naturalOf))
     where
-      by : (c n : Option ℕ) → over tellingOf (ifThere c λ c. ifThere n λ n. some (toldAlone (e ++ rest) b c n)) ≡ ifThere c λ c. ifThere n λ n. some (tellingAlone n c (hasKey encryptionKey v))
+      by : (c n : Option ℕ) → over tellingOf (ifThere c λ c. ifThere n λ n. some (toldAlone (e ++ rest) b c n))
+          ≡ ifThere c λ c. ifThere n λ n. some (tellingAlone n c (hasKey encryptionKey v))
       by (some c) (some n) = rw (there-reads encryptionKey x d rest)
       by (some c) none = refl
       by none n = refl
@@ -104,8 +105,8 @@ module _ {v : Value} {e : List ℕ} (x : Encodes v e) (d : depth v ≤ depthAllo
   map-telling : (limit : ℕ) (t : Told) → over tellingOf (bytes.withMap limit t (e ++ rest)) ≡ withMap limit (tellingOf t) v
   unfolding bytes.withMap withMap
   map-telling limit t =
-      rw (natural-under lengthKey none, natural-under compressionKey (some (t .secondary .compression)))
-      (by (valueUnder lengthKey v none naturalOf) (valueUnder compressionKey v (some (t .secondary .compression)) naturalOf))
+      rw (natural-under lengthKey none, natural-under compressionKey (some (t .primary .compression)))
+      (by (valueUnder lengthKey v none naturalOf) (valueUnder compressionKey v (some (t .primary .compression)) naturalOf))
     where
       by : (l c : Option ℕ) → over tellingOf (ifThere l λ l. onlyIf (leb l limit) (ifThere c λ c. some (toldWith t (e ++ rest) l c)))
           ≡ ifThere l λ l. onlyIf (leb l limit) (ifThere c λ c. some (tellingWith (tellingOf t) l c (hasKey encryptionKey v)))
@@ -129,7 +130,8 @@ module _ (limit : ℕ) (t : Told) where
       let n : ℕ = suc (suc (countValues vs)) in
       rw (ne-eqb n 0 (λ (i : n ≡ 0). omega arith), ne-eqb n 1 (λ (i : n ≡ 1). omega arith))
 
-  list-telling : (w : Value) (f q s : List ℕ) → s ≡ f ++ q → Encodes w f → depth w ≤ depthAllowed → over tellingOf (bytes.withList limit t s) ≡ withList limit (tellingOf t) w
+  list-telling : (w : Value) (f q s : List ℕ) → s ≡ f ++ q → Encodes w f → depth w ≤ depthAllowed
+      → over tellingOf (bytes.withList limit t s) ≡ withList limit (tellingOf t) w
   unfolding bytes.withList withList
   list-telling w f q s h y d = rw h (by (asArray w) (λ vs i. array-depth y vs i) (array-reads y q))
     where
@@ -146,16 +148,20 @@ module _ (limit : ℕ) {v : Value} {e : List ℕ} (x : Encodes v e) (d : depth v
   unfolding bytesUnder
   bytes-under = over-under primaryKey x d rest (content (e ++ rest)) none _ asBinary λ k w f q h y l. bytes-at k w f q (e ++ rest) h y
 
-  under-telling : (t : Told) → over tellingOf (under secondaryKey (e ++ rest) (some t) (λ p. bytes.withList limit t (drop p (e ++ rest)))) ≡ valueUnder secondaryKey v (some (tellingOf t)) (withList limit (tellingOf t))
-  under-telling t = over-under secondaryKey x d rest tellingOf (some t) _ (withList limit (tellingOf t)) λ k w f q h y l. list-telling limit t w f q (drop k (e ++ rest)) h y (omega arith)
+  under-telling : (t : Told) → over tellingOf (under secondaryKey (e ++ rest) (some t) (λ p. bytes.withList limit t (drop p (e ++ rest))))
+      ≡ valueUnder secondaryKey v (some (tellingOf t)) (withList limit (tellingOf t))
+  under-telling t = over-under secondaryKey x d rest tellingOf (some t) _
+      (withList limit (tellingOf t)) λ k w f q h y l. list-telling limit t w f q (drop k (e ++ rest)) h y (omega arith)
 
   header-telling : over tellingOf (bytes.header limit (e ++ rest)) ≡ ifThere (valueUnder primaryKey v none asBinary) λ b. telling limit v
   unfolding bytes.header bytes.alone telling
   header-telling = rw (← bytes-under) (by (bytesUnder primaryKey (e ++ rest)) refl)
     where
-      by : (b : Option msgpack.Part) → bytesUnder primaryKey (e ++ rest) ≡ b → over tellingOf (bytes.header limit (e ++ rest)) ≡ ifThere (over (content (e ++ rest)) b) λ c. telling limit v
+      by : (b : Option msgpack.Part) → bytesUnder primaryKey (e ++ rest) ≡ b
+          → over tellingOf (bytes.header limit (e ++ rest)) ≡ ifThere (over (content (e ++ rest)) b) λ c. telling limit v
       by (some b) q =
-          over-then tellingOf tellingOf (bytes.alone (e ++ rest)) (alone v) (λ t. under secondaryKey (e ++ rest) (some t) (λ p. bytes.withList limit t (drop p (e ++ rest))))
+          over-then tellingOf tellingOf (bytes.alone (e ++ rest)) (alone v)
+          (λ t. under secondaryKey (e ++ rest) (some t) (λ p. bytes.withList limit t (drop p (e ++ rest))))
           (λ t. valueUnder secondaryKey v (some t) (withList limit t)) (alone-telling x d rest b q) under-telling
       by none q = rw q
 
@@ -187,7 +193,8 @@ beyond n a b = by (eqb a b) refl
     by false e = ne-eqb (n + a) (n + b) (λ (i : n + a ≡ n + b). eqb-false a b e (omega arith))
 
 -- where the reading tells t
-module _ (limit : ℕ) {v : Value} {e : List ℕ} (x : Encodes v e) (d : depth v ≤ depthAllowed) (rest : List ℕ) (t : Told) (told : reading limit (e ++ rest) ≡ value-reading.told t) where
+module _ (limit : ℕ) {v : Value} {e : List ℕ} (x : Encodes v e) (d : depth v ≤ depthAllowed) (rest : List ℕ) (t : Told)
+    (told : reading limit (e ++ rest) ≡ result t) where
   after-header : t .secondary .start ≡ length e
   after-header =
       let w : whole (t .secondary .start) ≡ whole (length e) = sym (is-told limit (e ++ rest) t told .first-item) ∙ complete x depthAllowed d rest in
@@ -218,9 +225,10 @@ module _ (limit : ℕ) {v : Value} {e : List ℕ} (x : Encodes v e) (rest : List
           fills = rw length-append (beyond (length e) (t .secondary .len) (length rest))
 
           test : (b : Bool) → eqb (t .secondary .len) (length rest) ≡ b
-              → answerIn (e ++ rest) (reading limit (e ++ rest)) ≡ cond b (read (record { primary = headerIn e t .primary; secondary = rest; told = tellingOf t })) (refused 12)
+              → answerIn (e ++ rest) (reading limit (e ++ rest))
+              ≡ cond b (result (record { primary = headerIn e t .primary; secondary = rest; told = tellingOf t })) (refused 12)
           test true l =
-              let told : reading limit (e ++ rest) ≡ value-reading.told t = by-header d ∙ rw (q, fills, l) in
+              let told : reading limit (e ++ rest) ≡ result t = by-header d ∙ rw (q, fills, l) in
               rw (told, primary-held limit x d rest t told, secondary-held limit x d rest t told)
           test false l = rw (by-header d, q, fills, l)
 

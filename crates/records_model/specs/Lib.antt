@@ -5,7 +5,7 @@ pub mod HeaderReads
 pub mod Primary
 pub mod Record
 pub mod NoRepeats
-pub mod SameAnswer
+pub mod AnswersAlike
 pub mod SameReading
 pub mod SameRecords
 pub mod TwoSites

@@ -8,6 +8,7 @@ use native.Mathlib.Omega.{arith}
 use borrow.Author.Tests.{eq-eqb, leb-true, leb-false}
 use lib.Dec.{leb}
 use lib.ListN.{length, drop}
+use Rattle.refusals.specs.Answers.{Answer, refused}
 use Rattle.msgpack.specs.Items.{passItem, depthAllowed}
 use Rattle.msgpack_model.specs.Values.{Value, depth, asBoolean, asText}
 use Rattle.msgpack_model.specs.Encoding.{Encodes}
@@ -16,7 +17,7 @@ use Rattle.msgpack_model.specs.Deep.{deeper}
 use Rattle.msgpack_model.specs.Readers.{text-reads, boolean-reads}
 use Rattle.identifier.specs.Identity.{Identity}
 use Rattle.primary.specs.Parts as bytes
-use Rattle.primary.specs.Parts.{Answer, refused, fills, bucketKey, objectKey, ulidKey, identifierKey, deletedKey, deleteIdKey, textAt, textsBy, Shape, shapeOf, shapeAt, blockBy, Version, versionBy, VersionDelete, versionDeleteBy}
+use Rattle.primary.specs.Parts.{fills, bucketKey, objectKey, ulidKey, identifierKey, deletedKey, deleteIdKey, textAt, textsBy, Shape, shapeOf, shapeAt, blockBy, Version, versionBy, VersionDelete, versionDeleteBy}
 use Rattle.records_model.specs.Under.{valueUnder, under-reads}
 
 -- ---- what the value p tells as a primary part
@@ -85,7 +86,8 @@ fills-shallow {p} {e} x = by (leb (depth p) depthAllowed) refl
     by false l = rw (rw append-nil at (deeper x depthAllowed (leb-false _ _ l) []))
 
 -- a part of which all that is read is the same
-by-shallow : {A : Type 0} {p : Value} {e : List ℕ} → Encodes p e → (a b : Answer A) → (depth p ≤ depthAllowed → a ≡ b) → cond (fills e) a (refused 16) ≡ ifShallow p b
+by-shallow : {A : Type 0} {p : Value} {e : List ℕ} → Encodes p e → (a b : Answer A) → (depth p ≤ depthAllowed → a ≡ b)
+    → cond (fills e) a (refused 16) ≡ ifShallow p b
 by-shallow {p = p} x a b same = rw (fills-shallow x) (by (leb (depth p) depthAllowed) refl)
   where
     by : (t : Bool) → leb (depth p) depthAllowed ≡ t → cond t a (refused 16) ≡ cond t b (refused 16)

@@ -5,15 +5,14 @@ use mathlib.Core.List.{List, [], _∷_, _++_}
 use mathlib.Core.Option.{Option, none, some}
 use mathlib.Core.Path.{_≡_, refl, ap}
 use lib.Dec.{eqb}
-use Rattle.tlv.specs.Found.{Row, lowest}
-use Rattle.msgpack.specs.HeadLaws.{absurd-numbers}
+use Rattle.slices.specs.Logic.{absurd-numbers}
+use Rattle.refusals.specs.Sheet.{Row, lowest}
+use Rattle.refusals.specs.Answers.{Answer, refused, result, unless}
 use Rattle.msgpack_model.specs.Values.{Value}
 use Rattle.msgpack_model.specs.Encoding.{Encodes}
-use Rattle.value.specs.Reading as value
 use Rattle.value.specs.Reading.{reading}
 use Rattle.value.specs.declared.Told.{Told}
-use Rattle.primary.specs.Parts.{Answer, refused, read}
-use Rattle.records.specs.Record.{blockTag, versionTag, isKnown, Contents, ofBlock, ofVersion, ofVersionDelete, contents, Record, toldRows, primaryIn, withTold, unless, byValue, readRecord}
+use Rattle.records.specs.Record.{blockTag, versionTag, isKnown, Contents, ofBlock, ofVersion, ofVersionDelete, contents, Record, toldRows, primaryIn, withTold, byValue, readRecord}
 use Rattle.records_model.specs.Header.{Telling, Held, holds}
 use Rattle.records_model.specs.HeaderReads.{heldIn, answerIn, value-reads}
 use Rattle.records_model.specs.Primary.{block, version, versionDelete, block-reads, version-reads, version-delete-reads}
@@ -37,11 +36,11 @@ pub record RecordHeld : Type 0 where
   pub contents : Contents
 
 abbrev pub recordIn : List ℕ → Answer Record → Answer RecordHeld
-recordIn s (read r) = read (record { held = heldIn s (r .told); contents = r .contents })
+recordIn s (result r) = result (record { held = heldIn s (r .told); contents = r .contents })
 recordIn s (refused n) = refused n
 
 abbrev pub withHeld : Held → Answer Contents → Answer RecordHeld
-withHeld h (read c) = read (record { held = h; contents = c })
+withHeld h (result c) = result (record { held = h; contents = c })
 withHeld h (refused n) = refused n
 
 -- 13 to 15
@@ -53,7 +52,7 @@ tellingRows tag t =
     ∷ []
 
 abbrev pub byHeld : ℕ → Answer Held → Answer RecordHeld
-byHeld tag (read h) = unless (lowest (tellingRows tag (h .told))) (withHeld h (contents tag (h .primary)))
+byHeld tag (result h) = unless (lowest (tellingRows tag (h .told))) (withHeld h (contents tag (h .primary)))
 byHeld tag (refused n) = refused n
 
 -- of the record with this tag whose value is the header m and what follows it
@@ -61,29 +60,30 @@ unfoldable pub recordHolds : ℕ → ℕ → Value → List ℕ → Answer Recor
 recordHolds limit tag m rest = byHeld tag (holds limit m rest)
 
 -- every encoding is read so
-pub record-reads : (limit tag : ℕ) {v : Value} {e : List ℕ} → Encodes v e → (rest : List ℕ) → recordIn (e ++ rest) (readRecord limit tag (e ++ rest)) ≡ recordHolds limit tag v rest
+pub record-reads : (limit tag : ℕ) {v : Value} {e : List ℕ} → Encodes v e → (rest : List ℕ)
+    → recordIn (e ++ rest) (readRecord limit tag (e ++ rest)) ≡ recordHolds limit tag v rest
 unfolding readRecord recordHolds toldRows tellingRows
 record-reads limit tag {e = e} x rest = rw (← value-reads limit x rest) (by (reading limit (e ++ rest)))
   where
     with-told : (t : Told) (r : Option ℕ) (c : Answer Contents) → recordIn (e ++ rest) (unless r (withTold t c)) ≡ unless r (withHeld (heldIn (e ++ rest) t) c)
     with-told t (some n) c = refl
-    with-told t none (read c) = refl
+    with-told t none (result c) = refl
     with-told t none (refused n) = refl
 
-    by : (a : value.Answer) → recordIn (e ++ rest) (byValue tag (e ++ rest) a) ≡ byHeld tag (answerIn (e ++ rest) a)
-    by (value.told t) = with-told t (lowest (toldRows tag t)) (contents tag (primaryIn (e ++ rest) t))
-    by (value.refused n) = refl
+    by : (a : Answer Told) → recordIn (e ++ rest) (byValue tag (e ++ rest) a) ≡ byHeld tag (answerIn (e ++ rest) a)
+    by (result t) = with-told t (lowest (toldRows tag t)) (contents tag (primaryIn (e ++ rest) t))
+    by (refused n) = refl
 
 -- ---- from what is held back to the record, which tells it by places
 
 pub record IsHeld (s : List ℕ) (a : Answer Record) (h : RecordHeld) : Type 0 where
   pub found : Record
-  pub is : a ≡ read found
+  pub is : a ≡ result found
   pub same-held : heldIn s (found .told) ≡ h .held
   pub same-contents : found .contents ≡ h .contents
 
-pub is-held : (s : List ℕ) (a : Answer Record) (h : RecordHeld) → recordIn s a ≡ read h → IsHeld s a h
-is-held s (read r) h e =
+pub is-held : (s : List ℕ) (a : Answer Record) (h : RecordHeld) → recordIn s a ≡ result h → IsHeld s a h
+is-held s (result r) h e =
     let is : record { held = heldIn s (r .told); contents = r .contents } ≡ h = cc in
     record { found = r; is = refl; same-held = ap (λ (k : RecordHeld). k .held) is; same-contents = ap (λ (k : RecordHeld). k .contents) is }
 is-held s (refused n) h e = absurd-numbers (cc)

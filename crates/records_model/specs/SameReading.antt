@@ -19,7 +19,8 @@ use Rattle.records_model.specs.NoRepeats.{NoRepeat, headerKeys, secondar
 -- ---- under one key
 
 module _ (key : List ℕ) {v w : Value} (x : Alike v w) (once : (ps : Pairs) → asMap v ≡ some ps → timesKey key ps ≤ 1) where
-  same-under : {A : Type 0} (absent : Option A) (r : Value → Option A) → ((a b : Value) → itemUnder key v ≡ some a → Alike a b → r a ≡ r b) → valueUnder key v absent r ≡ valueUnder key w absent r
+  same-under : {A : Type 0} (absent : Option A) (r : Value → Option A)
+      → ((a b : Value) → itemUnder key v ≡ some a → Alike a b → r a ≡ r b) → valueUnder key v absent r ≡ valueUnder key w absent r
   same-under absent r there = related-under key x once (λ o p. o ≡ p) absent r refl refl there
 
   same-there : hasKey key v ≡ hasKey key w
@@ -48,15 +49,17 @@ module _ {v w : Value} (x : Alike v w) where
   same-map h limit t =
       rw (
         same-natural lengthKey x (λ ps i. h .once ps i .0) none,
-        same-natural compressionKey x (λ ps i. h .once ps i .1 .0) (some (t .secondary .compression)),
+        same-natural compressionKey x (λ ps i. h .once ps i .1 .0) (some (t .primary .compression)),
         same-there encryptionKey x (λ ps i. h .once ps i .1 .1 .0),
       )
 
-same-list : {v w : Value} → Alike v w → ((s : Value) → listedIn v ≡ some s → NoRepeat secondaryKeys s) → (limit : ℕ) (t : Telling) → withList limit t v ≡ withList limit t w
+same-list : {v w : Value} → Alike v w → ((s : Value) → listedIn v ≡ some s → NoRepeat secondaryKeys s) → (limit : ℕ) (t : Telling)
+    → withList limit t v ≡ withList limit t w
 unfolding withList
 same-list x h limit t = by (alike-array x) h
   where
-    by : {o p : Option Values} → Both AlikeValues o p → ((s : Value) → ifThere o onlyItem ≡ some s → NoRepeat secondaryKeys s) → ifThere o (withItems limit t) ≡ ifThere p (withItems limit t)
+    by : {o p : Option Values} → Both AlikeValues o p → ((s : Value) → ifThere o onlyItem ≡ some s → NoRepeat secondaryKeys s)
+        → ifThere o (withItems limit t) ≡ ifThere p (withItems limit t)
     by (both no-values-alike) k = refl
     by (both (next {v = m} y no-values-alike)) k = same-map y (k m refl) limit t
     by (both (next y (next z zs))) k = refl
@@ -66,8 +69,10 @@ same-telling : {v w : Value} → Alike v w → HeaderNoRepeat v → (limit : ℕ
 unfolding telling
 same-telling {v} {w} x h limit = rw (same-alone x (h .header)) (by (alone w))
   where
-    by : (o : Option Telling) → (ifThere o λ t. valueUnder secondaryKey v (some t) (withList limit t)) ≡ (ifThere o λ t. valueUnder secondaryKey w (some t) (withList limit t))
-    by (some t) = same-under secondaryKey x (λ ps i. h .header .once ps i .1 .0) (some t) (withList limit t) λ a b i y. same-list y (λ s j. h .secondary a s i j) limit t
+    by : (o : Option Telling) → (ifThere o λ t. valueUnder secondaryKey v (some t) (withList limit t))
+        ≡ (ifThere o λ t. valueUnder secondaryKey w (some t) (withList limit t))
+    by (some t) = same-under secondaryKey x (λ ps i. h .header .once ps i .1 .0) (some t) (withList limit t) λ a b i y. same-list y
+        (λ s j. h .secondary a s i j) limit t
     by none = refl
 
 -- two headers tell the same: bytes alike under `e`, and all else equal
@@ -77,10 +82,14 @@ pub record SameHeader (h g : Header) : Type 0 where
 
 pub same-header : {v w : Value} → Alike v w → HeaderNoRepeat v → (limit : ℕ) → Both SameHeader (header limit v) (header limit w)
 unfolding header
-same-header {v} {w} x h limit = rw (same-telling x h limit) (by (related-under primaryKey x (λ ps i. h .header .once ps i .0) (Both AlikeBytes) none asBinary neither neither λ a b i y. alike-binary y) (telling limit w))
+same-header {v} {w} x h limit =
+    rw (same-telling x h limit) (by
+    (related-under primaryKey x (λ ps i. h .header .once ps i .0) (Both AlikeBytes) none asBinary neither neither λ a b i y. alike-binary y)
+    (telling limit w))
   where
     by : {o p : Option (List ℕ)} → Both AlikeBytes o p → (t : Option Telling)
-        → Both SameHeader (ifThere o λ b. ifThere t λ t. some (record { primary = b; told = t })) (ifThere p λ b. ifThere t λ t. some (record { primary = b; told = t }))
+        → Both SameHeader (ifThere o λ b. ifThere t λ t. some (record { primary = b; told = t }))
+        (ifThere p λ b. ifThere t λ t. some (record { primary = b; told = t }))
     by (both y) (some t) = both (record { primary = y; told = refl })
     by (both y) none = neither
     by neither t = neither
@@ -90,7 +99,11 @@ same-header {v} {w} x h limit = rw (same-telling x h limit) (by (related-under p
 module _ {p q : Value} (x : Alike p q) where
   same-texts : NoRepeat identityKeys p → textsUnder p ≡ textsUnder q
   unfolding textsUnder
-  same-texts h = rw (same-text-under ulidKey x (λ ps i. h .once ps i .0), same-text-under bucketKey x (λ ps i. h .once ps i .1 .0), same-text-under objectKey x (λ ps i. h .once ps i .1 .1 .0))
+  same-texts h = rw (
+    same-text-under ulidKey x (λ ps i. h .once ps i .0),
+    same-text-under bucketKey x (λ ps i. h .once ps i .1 .0),
+    same-text-under objectKey x (λ ps i. h .once ps i .1 .1 .0),
+  )
 
 same-shape : {i j : Value} → Alike i j → NoRepeat identityKeys i → shapeIn i ≡ shapeIn j
 same-shape x h = rw (same-text x, same-texts x h)

@@ -7,36 +7,38 @@ use mathlib.Core.Path.{_≡_, refl, sym, ap, _∙_}
 use borrow.Author.Tests.{eqb-true}
 use lib.Dec.{leb, eqb}
 use lib.ListN.{length}
-use Rattle.tlv.specs.Found.{lowest}
+use Rattle.slices.specs.Logic.{absurd-numbers}
+use Rattle.refusals.specs.Sheet.{lowest}
+use Rattle.refusals.specs.Answers.{Answer, refused, result, unless}
 use Rattle.msgpack.specs.Items.{depthAllowed}
 use Rattle.msgpack.specs.Lookup.{ifThere}
-use Rattle.msgpack.specs.HeadLaws.{absurd-numbers}
 use Rattle.msgpack_model.specs.Values.{Value, depth, asBinary}
 use Rattle.msgpack_model.specs.Encoding.{Encodes}
 use Rattle.value.specs.Header.{primaryKey}
-use Rattle.primary.specs.Parts.{Answer, refused, read}
-use Rattle.records.specs.Record.{blockTag, versionTag, versionDeleteTag, isKnown, Contents, ofBlock, ofVersion, ofVersionDelete, contents, unless}
+use Rattle.records.specs.Record.{blockTag, versionTag, versionDeleteTag, isKnown, Contents, ofBlock, ofVersion, ofVersionDelete, contents}
 use Rattle.records_model.specs.Alike.{Alike, AlikeBytes, same-bytes, encodings, Both, both, neither, same-depth}
 use Rattle.records_model.specs.Under.{valueUnder}
 use Rattle.records_model.specs.Header.{Telling, telling, Header, header, Held, filledBy, holds}
 use Rattle.records_model.specs.Primary.{block, version, versionDelete}
 use Rattle.records_model.specs.Record.{contentsOf, contents-reads, tellingRows, withHeld, byHeld, recordHolds}
 use Rattle.records_model.specs.NoRepeats.{HeaderNoRepeat, PartNoRepeat, NoRepeats}
-use Rattle.records_model.specs.SameAnswer.{SameAnswer, same-refusal, both-read, SameHeld, SameRecord}
+use Rattle.records_model.specs.AnswersAlike.{AnswersAlike, same-refusal, both-read, SameHeld, SameRecord}
 use Rattle.records_model.specs.SameReading.{SameHeader, same-header, same-block, same-version, same-version-delete}
 
 -- ---- the value
 
-pub same-held : {v w : Value} → Alike v w → HeaderNoRepeat v → (limit : ℕ) (rest : List ℕ) → SameAnswer SameHeld (holds limit v rest) (holds limit w rest)
+pub same-held : {v w : Value} → Alike v w → HeaderNoRepeat v → (limit : ℕ) (rest : List ℕ) → AnswersAlike SameHeld (holds limit v rest) (holds limit w rest)
 unfolding holds
 same-held {v} {w} x h limit rest = rw (same-depth x) (by (leb (depth w) depthAllowed) (same-header x h limit))
   where
     filled : (b : Bool) (t : Telling) {d e : List ℕ} → AlikeBytes d e
-        → SameAnswer SameHeld (cond b (read (record { primary = d; secondary = rest; told = t })) (refused 12)) (cond b (read (record { primary = e; secondary = rest; told = t })) (refused 12))
+        → AnswersAlike SameHeld (cond b (result (record { primary = d; secondary = rest; told = t })) (refused 12))
+        (cond b (result (record { primary = e; secondary = rest; told = t })) (refused 12))
     filled true t y = both-read (record { primary = y; secondary = refl; told = refl })
     filled false t y = same-refusal 12
 
-    by : (t : Bool) {o p : Option Header} → Both SameHeader o p → SameAnswer SameHeld (cond t (filledBy rest o) (refused 10)) (cond t (filledBy rest p) (refused 10))
+    by : (t : Bool) {o p : Option Header} → Both SameHeader o p
+        → AnswersAlike SameHeld (cond t (filledBy rest o) (refused 10)) (cond t (filledBy rest p) (refused 10))
     by true (both {a = k} {b = l} y) = rw (y .told) (filled (eqb (l .told .length) (length rest)) (l .told) (y .primary))
     by true neither = same-refusal 11
     by false y = same-refusal 10
@@ -51,15 +53,17 @@ header-primary limit v h q = by (valueUnder primaryKey v none asBinary) (telling
     by (some b) none i = absurd-numbers (cc)
     by none t i = absurd-numbers (cc)
 
-held-primary : (limit : ℕ) (v : Value) (rest : List ℕ) (h : Held) → holds limit v rest ≡ read h → valueUnder primaryKey v none asBinary ≡ some (h .primary)
+held-primary : (limit : ℕ) (v : Value) (rest : List ℕ) (h : Held) → holds limit v rest ≡ result h → valueUnder primaryKey v none asBinary ≡ some (h .primary)
 unfolding holds
 held-primary limit v rest h q = by (leb (depth v) depthAllowed) (header limit v) refl q
   where
-    filled : (b : Bool) (k : Header) → cond b (read (record { primary = k .primary; secondary = rest; told = k .told })) (refused 12) ≡ read h → k .primary ≡ h .primary
+    filled : (b : Bool) (k : Header) → cond b (result (record { primary = k .primary; secondary = rest; told = k .told })) (refused 12)
+        ≡ result h → k .primary ≡ h .primary
     filled true k i = let is : record { primary = k .primary; secondary = rest; told = k .told } ≡ h = cc in rw (← is)
     filled false k i = absurd-numbers (cc)
 
-    by : (t : Bool) (o : Option Header) → header limit v ≡ o → cond t (filledBy rest o) (refused 10) ≡ read h → valueUnder primaryKey v none asBinary ≡ some (h .primary)
+    by : (t : Bool) (o : Option Header) → header limit v ≡ o → cond t (filledBy rest o) (refused 10) ≡ result h
+        → valueUnder primaryKey v none asBinary ≡ some (h .primary)
     by true (some k) i j = header-primary limit v k i ∙ ap some (filled (eqb (k .told .length) (length rest)) k j)
     by true none i j = absurd-numbers (cc)
     by false o i j = absurd-numbers (cc)
@@ -72,13 +76,15 @@ unfolding contentsOf isKnown
 same-contents-of {p} {q} x tag known h = by (eqb tag blockTag) refl (eqb tag versionTag) refl (eqb tag versionDeleteTag) refl known
   where
     by : (a : Bool) → eqb tag blockTag ≡ a → (b : Bool) → eqb tag versionTag ≡ b → (c : Bool) → eqb tag versionDeleteTag ≡ c → (a || b || c) ≡ true
-        → cond a (ofBlock (block p)) (cond b (ofVersion (version p)) (ofVersionDelete (versionDelete p))) ≡ cond a (ofBlock (block q)) (cond b (ofVersion (version q)) (ofVersionDelete (versionDelete q)))
+        → cond a (ofBlock (block p)) (cond b (ofVersion (version p)) (ofVersionDelete (versionDelete p)))
+        ≡ cond a (ofBlock (block q)) (cond b (ofVersion (version q)) (ofVersionDelete (versionDelete q)))
     by true i b j c k l = ap ofBlock (same-block x (h .block (eqb-true _ _ i)))
     by false i true j c k l = ap ofVersion (same-version x (h .version (eqb-true _ _ j)))
     by false i false j true k l = ap ofVersionDelete (same-version-delete x (h .versionDelete (eqb-true _ _ k)))
     by false i false j false k l = absurd-numbers (cc)
 
-same-contents : (tag : ℕ) → isKnown tag ≡ true → {e f : List ℕ} → AlikeBytes e f → ((p : Value) → Encodes p e → PartNoRepeat tag p) → contents tag e ≡ contents tag f
+same-contents : (tag : ℕ) → isKnown tag ≡ true → {e f : List ℕ} → AlikeBytes e f → ((p : Value) → Encodes p e → PartNoRepeat tag p)
+    → contents tag e ≡ contents tag f
 same-contents tag known (same-bytes e) h = refl
 same-contents tag known (encodings {v = p} x y z) h = contents-reads tag x ∙ same-contents-of z tag known (h p x) ∙ sym (contents-reads tag y)
 
@@ -93,23 +99,28 @@ rows-known tag t q = by (isKnown tag) refl
     by true e = e
     by false e = absurd-numbers (cc (rw e at q))
 
-same-record : (tag : ℕ) {a b : Answer Held} → SameAnswer SameHeld a b → ((h : Held) (p : Value) → a ≡ read h → Encodes p (h .primary) → PartNoRepeat tag p) → SameAnswer SameRecord (byHeld tag a) (byHeld tag b)
+same-record : (tag : ℕ) {a b : Answer Held} → AnswersAlike SameHeld a b
+    → ((h : Held) (p : Value) → a ≡ result h → Encodes p (h .primary) → PartNoRepeat tag p) → AnswersAlike SameRecord (byHeld tag a) (byHeld tag b)
 same-record tag (same-refusal n) part = same-refusal n
 same-record tag (both-read {a = h} {b = g} s) part =
     let rows : lowest (tellingRows tag (h .told)) ≡ lowest (tellingRows tag (g .told)) = ap (λ (t : Telling). lowest (tellingRows tag t)) (s .told) in
     rw rows (by (lowest (tellingRows tag (g .told))) refl)
   where
-    with-contents : (c d : Answer Contents) → c ≡ d → SameAnswer SameRecord (withHeld h c) (withHeld g d)
+    with-contents : (c d : Answer Contents) → c ≡ d → AnswersAlike SameRecord (withHeld h c) (withHeld g d)
     with-contents c d i = rw (← i) (each c)
       where
-        each : (c : Answer Contents) → SameAnswer SameRecord (withHeld h c) (withHeld g c)
-        each (read c) = both-read (record { held = s; contents = refl })
+        each : (c : Answer Contents) → AnswersAlike SameRecord (withHeld h c) (withHeld g c)
+        each (result c) = both-read (record { held = s; contents = refl })
         each (refused n) = same-refusal n
 
-    by : (o : Option ℕ) → lowest (tellingRows tag (g .told)) ≡ o → SameAnswer SameRecord (unless o (withHeld h (contents tag (h .primary)))) (unless o (withHeld g (contents tag (g .primary))))
+    by : (o : Option ℕ) → lowest (tellingRows tag (g .told)) ≡ o
+        → AnswersAlike SameRecord (unless o (withHeld h (contents tag (h .primary)))) (unless o (withHeld g (contents tag (g .primary))))
     by (some n) i = same-refusal n
-    by none i = with-contents (contents tag (h .primary)) (contents tag (g .primary)) (same-contents tag (rows-known tag (g .told) i) (s .primary) λ p x. part h p refl x)
+    by none i = with-contents (contents tag (h .primary)) (contents tag (g .primary))
+        (same-contents tag (rows-known tag (g .told) i) (s .primary) λ p x. part h p refl x)
 
-pub same-records : {v w : Value} → Alike v w → (limit tag : ℕ) → NoRepeats tag v → (rest : List ℕ) → SameAnswer SameRecord (recordHolds limit tag v rest) (recordHolds limit tag w rest)
+pub same-records : {v w : Value} → Alike v w → (limit tag : ℕ) → NoRepeats tag v → (rest : List ℕ)
+    → AnswersAlike SameRecord (recordHolds limit tag v rest) (recordHolds limit tag w rest)
 unfolding recordHolds
-same-records {v} x limit tag h rest = same-record tag (same-held x (h .header) limit rest) λ k p i j. h .primary (k .primary) p (held-primary limit v rest k i) j
+same-records {v} x limit tag h rest = same-record tag (same-held x (h .header) limit rest) λ k p i j. h .primary (k .primary) p
+    (held-primary limit v rest k i) j

@@ -5,16 +5,17 @@ use mathlib.Core.List.{List, [], _++_, append-nil}
 use mathlib.Core.Path.{_≡_, refl, _∙_}
 use borrow.Author.Tests.{le-leb, eq-eqb}
 use lib.ListN.{length}
-use Rattle.endian.specs.Bytes.{sameBytes}
-use Rattle.tlv.specs.Found.{lowest}
+use Rattle.slices.specs.Bytes.{sameBytes}
+use Rattle.refusals.specs.Sheet.{lowest}
+use Rattle.refusals.specs.Answers.{result}
 use Rattle.msgpack.specs.Readers.{plus}
 use Rattle.msgpack_model.specs.Values.{Value, Integer, Text, Binary, Array, Map, no-values, value, no-pairs, pair}
 use Rattle.msgpack_model.specs.Encoding.{Encodes}
-use Rattle.value.specs.Header.{primaryKey, secondaryKey, lengthKey}
 use Rattle.identifier.specs.Ulid.{isUlid}
 use Rattle.identifier.specs.Identity.{Identity, isValid, identityOf}
 use Rattle.identifier.specs.Composite.{compositeText, text-reads}
-use Rattle.primary.specs.Parts.{read, bucketKey, objectKey, ulidKey, identifierKey, deleteIdKey, ulidOf}
+use Rattle.value.specs.Header.{primaryKey, secondaryKey, lengthKey}
+use Rattle.primary.specs.Parts.{bucketKey, objectKey, ulidKey, identifierKey, deleteIdKey, ulidOf}
 use Rattle.records.specs.Record.{blockTag, versionDeleteTag, isKnown, Contents, versionDelete as deleteKind, block as blockKind, contents, readRecord}
 use Rattle.records_model.specs.Header.{tellingAlone, tellingWith, alone, withMap, withList, telling, header, Held, holds}
 use Rattle.records_model.specs.Primary.{textsUnder, block, versionDelete}
@@ -53,19 +54,21 @@ heldAlone part = record { primary = part; secondary = []; told = tellingAlone 0 
 abbrev pub heldWith : List ℕ → List ℕ → Held
 heldWith part secondary = record { primary = part; secondary = secondary; told = tellingWith (tellingAlone 0 0 false) (length secondary) 0 false }
 
-pub plain-holds : (limit : ℕ) (part : List ℕ) → holds limit (plainHeader part) [] ≡ read (heldAlone part)
+pub plain-holds : (limit : ℕ) (part : List ℕ) → holds limit (plainHeader part) [] ≡ result (heldAlone part)
 unfolding holds header telling alone sameBytes
 plain-holds limit part = refl
 
-pub block-holds : (limit : ℕ) (part secondary : List ℕ) → length secondary ≤ limit → holds limit (blockHeader (length secondary) part) secondary ≡ read (heldWith part secondary)
+pub block-holds : (limit : ℕ) (part secondary : List ℕ) → length secondary ≤ limit
+    → holds limit (blockHeader (length secondary) part) secondary ≡ result (heldWith part secondary)
 unfolding holds header telling alone withList withMap sameBytes
 block-holds limit part secondary h = rw (le-leb (length secondary) limit h, eq-eqb (length secondary) (length secondary) refl)
 
-pub block-part : (i : Identity) → isValid i ≡ true → block (blockPart i) ≡ read i
+pub block-part : (i : Identity) → isValid i ≡ true → block (blockPart i) ≡ result i
 unfolding block sameBytes
 block-part i v = rw (text-reads i v)
 
-pub delete-part : (i : Identity) (id : List ℕ) → isValid i ≡ true → isUlid id ≡ true → versionDelete (deletePart i id) ≡ read (record { identifier = i; deleteId = id })
+pub delete-part : (i : Identity) (id : List ℕ) → isValid i ≡ true → isUlid id ≡ true
+    → versionDelete (deletePart i id) ≡ result (record { identifier = i; deleteId = id })
 unfolding versionDelete textsUnder sameBytes identityOf ulidOf
 delete-part i id v u = rw (v, u)
 
@@ -73,18 +76,22 @@ delete-part i id v u = rw (v, u)
 
 module _ (limit : ℕ) {part e : List ℕ} where
   -- a primary part that reads, under the header {e}
-  pub plain-reads-back : (tag : ℕ) (c : Contents) → isKnown tag ≡ true → contents tag part ≡ read c → Encodes (plainHeader part) e → recordIn e (readRecord limit tag e) ≡ read (record { held = heldAlone part; contents = c })
+  pub plain-reads-back : (tag : ℕ) (c : Contents) → isKnown tag ≡ true → contents tag part ≡ result c → Encodes (plainHeader part) e
+      → recordIn e (readRecord limit tag e) ≡ result (record { held = heldAlone part; contents = c })
   unfolding recordHolds lowest tellingRows
   plain-reads-back tag c known reads x =
       let here : recordIn e (readRecord limit tag e) ≡ byHeld tag (holds limit (plainHeader part) []) = rw append-nil at (record-reads limit tag x []) in
       here ∙ rw (plain-holds limit part, known, reads)
 
-  pub block-reads-back : (i : Identity) (secondary : List ℕ) → isValid i ≡ true → length secondary ≤ limit → Encodes (blockPart i) part → Encodes (blockHeader (length secondary) part) e
-      → recordIn (e ++ secondary) (readRecord limit blockTag (e ++ secondary)) ≡ read (record { held = heldWith part secondary; contents = record { identifier = i; kind = blockKind } })
+  pub block-reads-back : (i : Identity) (secondary : List ℕ) → isValid i ≡ true → length secondary ≤ limit
+      → Encodes (blockPart i) part → Encodes (blockHeader (length secondary) part) e
+      → recordIn (e ++ secondary) (readRecord limit blockTag (e ++ secondary))
+      ≡ result (record { held = heldWith part secondary; contents = record { identifier = i; kind = blockKind } })
   unfolding recordHolds lowest tellingRows isKnown contentsOf
   block-reads-back i secondary v l x y =
       record-reads limit blockTag y secondary ∙ rw (block-holds limit part secondary l, contents-reads blockTag x, block-part i v)
 
-pub delete-reads-back : (i : Identity) (id : List ℕ) {part : List ℕ} → isValid i ≡ true → isUlid id ≡ true → Encodes (deletePart i id) part → contents versionDeleteTag part ≡ read (record { identifier = i; kind = deleteKind id })
+pub delete-reads-back : (i : Identity) (id : List ℕ) {part : List ℕ} → isValid i ≡ true → isUlid id ≡ true
+    → Encodes (deletePart i id) part → contents versionDeleteTag part ≡ result (record { identifier = i; kind = deleteKind id })
 unfolding contentsOf
 delete-reads-back i id v u x = contents-reads versionDeleteTag x ∙ rw (delete-part i id v u)

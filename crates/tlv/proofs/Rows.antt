@@ -7,9 +7,10 @@ use native.Mathlib.Omega.{arith}
 use borrow.Author.Tests.{eq-eqb, ne-eqb, lt-ltb, le-ltb}
 use lib.Dec.{eqb}
 use lib.ListN.{length, take, drop}
+use Rattle.refusals.specs.Sheet.{lowest}
 use Rattle.xxh64.specs.Xxh64.{xxh64}
 use Rattle.tlv.specs.Layout.{field}
-use Rattle.tlv.specs.Found.{valueRows, lowest, headerOf, found, fault, unless, header, header-found}
+use Rattle.tlv.specs.Found.{valueRows, headerOf, found, fault, foundUnless, header, header-found}
 use Rattle.tlv.specs.declared.RecordHeader.{RecordHeader}
 
 pub agrees : {r x y : ℕ} → r ≡ x → r ≡ y → not (eqb x y) ≡ false
@@ -34,16 +35,16 @@ module _ (s : List ℕ) (h : RecordHeader) (whole : header s ≡ found h) where
       let w : (32 + h .length) - 32 ≡ h .length = omega arith in
       rw w at e
 
-  pub value-cut : length s - 32 < h .length → fault 7 ≡ unless (lowest (valueRows s)) h
+  pub value-cut : length s - 32 < h .length → fault 7 ≡ foundUnless (lowest (valueRows s)) h
   unfolding valueRows lowest
   value-cut l = rw (length-field, lt-ltb (length s - 32) (h .length) l)
 
-  pub value-differs : h .length ≤ length s - 32 → (n : ℕ) → n ≡ xxh64 (take ((32 + h .length) - 32) (drop 32 s)) → (h .hash ≡ n → ⊥) → fault 8 ≡ unless (lowest (valueRows s)) h
+  pub value-differs : h .length ≤ length s - 32 → (n : ℕ) → n ≡ xxh64 (take ((32 + h .length) - 32) (drop 32 s)) → (h .hash ≡ n → ⊥) → fault 8 ≡ foundUnless (lowest (valueRows s)) h
   unfolding valueRows lowest
   value-differs l n e d =
       rw (length-field, hash-field, le-ltb (length s - 32) (h .length) l, ne-eqb (h .hash) (xxh64 (take (h .length) (drop 32 s))) (λ q. d (q ∙ sym (value-hash n e))))
 
-  pub value-agrees : h .length ≤ length s - 32 → (n : ℕ) → n ≡ xxh64 (take ((32 + h .length) - 32) (drop 32 s)) → h .hash ≡ n → found h ≡ unless (lowest (valueRows s)) h
+  pub value-agrees : h .length ≤ length s - 32 → (n : ℕ) → n ≡ xxh64 (take ((32 + h .length) - 32) (drop 32 s)) → h .hash ≡ n → found h ≡ foundUnless (lowest (valueRows s)) h
   unfolding valueRows lowest
   value-agrees l n e q =
       rw (length-field, hash-field, le-ltb (length s - 32) (h .length) l, eq-eqb (h .hash) (xxh64 (take (h .length) (drop 32 s))) (q ∙ value-hash n e))

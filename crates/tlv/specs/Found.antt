@@ -8,6 +8,7 @@ use native.Mathlib.Omega.{arith}
 use borrow.Author.Tests.{ltb-false, eqb-true, ne-eqb}
 use lib.Dec.{eqb, ltb}
 use lib.ListN.{length, take, drop}
+use Rattle.refusals.specs.Sheet.{Row, lowest}
 use Rattle.xxh64.specs.Xxh64.{xxh64}
 use Rattle.tlv.specs.Layout.{magic, field}
 use Rattle.tlv.specs.declared.RecordHeader.{RecordHeader}
@@ -19,10 +20,6 @@ use Rattle.tlv.specs.declared.Step.{Step}
 use Rattle.tlv.specs.declared.Step.the-variants as Step
 
 -- ---- the refusal sheet: a number, and whether it applies to what stands at the front of s
-
-pub record Row : Type 0 where
-  pub number : ℕ
-  pub applies : Bool
 
 unfoldable pub headerRows : List ℕ → List Row
 headerRows s =
@@ -38,11 +35,6 @@ valueRows s =
     record { number = 7; applies = ltb (length s - 32) (field s 8 8) }
     ∷ record { number = 8; applies = not (eqb (field s 16 8) (xxh64 (take (field s 8 8) (drop 32 s)))) }
     ∷ []
-
--- the lowest number that applies: the rows stand in rising order
-unfoldable pub lowest : List Row → Option ℕ
-lowest [] = none
-lowest (row ∷ rows) = cond (row .applies) (some (row .number)) (lowest rows)
 
 -- ---- what stands at the front of s
 
@@ -65,17 +57,17 @@ pub data Found : Type 0 where
   found : RecordHeader → Found
   fault : ℕ → Found
 
-abbrev pub unless : Option ℕ → RecordHeader → Found
-unless none h = found h
-unless (some n) h = fault n
+abbrev pub foundUnless : Option ℕ → RecordHeader → Found
+foundUnless none h = found h
+foundUnless (some n) h = fault n
 
 -- a header by itself
 unfoldable pub header : List ℕ → Found
-header s = unless (lowest (headerRows s)) (headerOf s)
+header s = foundUnless (lowest (headerRows s)) (headerOf s)
 
 -- the step of a reader: a record with its value
 unfoldable pub step : List ℕ → Found
-step s = cond (eqb (length s) 0) end (unless (lowest (headerRows s ++ valueRows s)) (headerOf s))
+step s = cond (eqb (length s) 0) end (foundUnless (lowest (headerRows s ++ valueRows s)) (headerOf s))
 
 -- ---- what each answer of the code says
 
@@ -104,17 +96,18 @@ unfolding lowest Option·elim
 lowest-append [] more = refl
 lowest-append (row ∷ rows) more = go (row .applies) (lowest-append rows more)
   where
-    go : (t : Bool) → lowest (rows ++ more) ≡ Option·elim (lowest rows) (lowest more) some → cond t (some (row .number)) (lowest (rows ++ more)) ≡ Option·elim (cond t (some (row .number)) (lowest rows)) (lowest more) some
+    go : (t : Bool) → lowest (rows ++ more) ≡ Option·elim (lowest rows) (lowest more) some
+        → cond t (some (row .number)) (lowest (rows ++ more)) ≡ Option·elim (cond t (some (row .number)) (lowest rows)) (lowest more) some
     go true e = refl
     go false e = e
 
-pub unless-found : (o : Option ℕ) (g h : RecordHeader) → unless o g ≡ found h → (o ≡ none) × (g ≡ h)
-unless-found none g h e = (refl, cc)
-unless-found (some n) g h e = absurd (let z : _≡_ {A = ℕ} 0 1 = cc in omega arith)
+pub found-unless : (o : Option ℕ) (g h : RecordHeader) → foundUnless o g ≡ found h → (o ≡ none) × (g ≡ h)
+found-unless none g h e = (refl, cc)
+found-unless (some n) g h e = absurd (let z : _≡_ {A = ℕ} 0 1 = cc in omega arith)
 
-unless-fault : (o : Option ℕ) (g : RecordHeader) (n : ℕ) → unless o g ≡ fault n → o ≡ some n
-unless-fault none g n e = absurd (let z : _≡_ {A = ℕ} 0 1 = cc in omega arith)
-unless-fault (some m) g n e = cc
+fault-unless : (o : Option ℕ) (g : RecordHeader) (n : ℕ) → foundUnless o g ≡ fault n → o ≡ some n
+fault-unless none g n e = absurd (let z : _≡_ {A = ℕ} 0 1 = cc in omega arith)
+fault-unless (some m) g n e = cc
 
 pub step-none : (s : List ℕ) → length s ≡ 0 → step s ≡ end
 unfolding step
@@ -124,27 +117,27 @@ pub step-end : (s : List ℕ) → step s ≡ end → length s ≡ 0
 unfolding step
 step-end s e = go (eqb (length s) 0) refl e
   where
-    never : (o : Option ℕ) → unless o (headerOf s) ≡ end → ⊥
+    never : (o : Option ℕ) → foundUnless o (headerOf s) ≡ end → ⊥
     never none e = let z : _≡_ {A = ℕ} 0 1 = cc in omega arith
     never (some n) e = let z : _≡_ {A = ℕ} 0 1 = cc in omega arith
 
-    go : (t : Bool) → eqb (length s) 0 ≡ t → cond t end (unless (lowest (headerRows s ++ valueRows s)) (headerOf s)) ≡ end → length s ≡ 0
+    go : (t : Bool) → eqb (length s) 0 ≡ t → cond t end (foundUnless (lowest (headerRows s ++ valueRows s)) (headerOf s)) ≡ end → length s ≡ 0
     go true p e = eqb-true (length s) 0 p
     go false p e = absurd (never (lowest (headerRows s ++ valueRows s)) e)
 
 module _ (s : List ℕ) (some-bytes : 0 < length s) where
-  step-some : step s ≡ unless (Option·elim (lowest (headerRows s)) (lowest (valueRows s)) some) (headerOf s)
+  step-some : step s ≡ foundUnless (Option·elim (lowest (headerRows s)) (lowest (valueRows s)) some) (headerOf s)
   unfolding step
   step-some = rw (ne-eqb (length s) 0 (omega arith), lowest-append (headerRows s) (valueRows s))
 
   pub step-of-fault : (n : ℕ) → header s ≡ fault n → step s ≡ fault n
   unfolding header Option·elim
-  step-of-fault n e = rw (step-some, unless-fault (lowest (headerRows s)) (headerOf s) n e)
+  step-of-fault n e = rw (step-some, fault-unless (lowest (headerRows s)) (headerOf s) n e)
 
-  pub step-of-header : (h : RecordHeader) → header s ≡ found h → step s ≡ unless (lowest (valueRows s)) h
+  pub step-of-header : (h : RecordHeader) → header s ≡ found h → step s ≡ foundUnless (lowest (valueRows s)) h
   unfolding header Option·elim
   step-of-header h e =
-      let f = unless-found (lowest (headerRows s)) (headerOf s) h e in
+      let f = found-unless (lowest (headerRows s)) (headerOf s) h e in
       rw (step-some, f .0, f .1)
 
 -- a header that is found is whole, and is the one that its bytes spell
@@ -154,4 +147,4 @@ header-found s h e = go (ltb (length s) 32) refl
   where
     go : (t : Bool) → ltb (length s) 32 ≡ t → (32 ≤ length s) × (headerOf s ≡ h)
     go true l = absurd (let z : _≡_ {A = ℕ} 0 1 = (let y : fault 2 ≡ found h = sym (rw l) ∙ e in cc) in omega arith)
-    go false l = (ltb-false (length s) 32 l, unless-found (lowest (headerRows s)) (headerOf s) h e .1)
+    go false l = (ltb-false (length s) 32 l, found-unless (lowest (headerRows s)) (headerOf s) h e .1)

@@ -5,7 +5,7 @@ use mathlib.Core.Path.{_≡_, refl, sym, ap, _∙_}
 use native.Mathlib.Omega.{arith}
 use lib.ListN.{length, getD, take, drop, length-append, length-drop}
 use lib.Seq.{split-at, drop-at, take-at, take-add, drop-drop, length-take-le}
-use Rattle.endian.specs.Bytes.{AllBytes, none-bytes, append-bytes, take-bytes, drop-bytes}
+use Rattle.slices.specs.Bytes.{AllBytes, none-bytes, append-bytes, take-bytes, drop-bytes}
 use Rattle.endian.specs.Numbers.{big, bigBytes, length-bigBytes, bigBytes-bytes, big-of-bytes, bytes-of-big}
 use Rattle.xxh64.specs.Xxh64.{xxh64}
 
@@ -95,13 +95,19 @@ field-after fs w n rest =
 abbrev pub nth : List Field → ℕ → Field
 nth fs k = getD fs k (record { width = 0; number = 0 })
 
-pub field-nth : (fs : List Field) (k : ℕ) (rest : List ℕ) → k < length fs → field (bytesOf fs ++ rest) (width (take k fs)) (nth fs k .width) ≡ nth fs k .number % 256 ^ nth fs k .width
+pub field-nth : (fs : List Field) (k : ℕ) (rest : List ℕ) → k < length fs
+    → field (bytesOf fs ++ rest) (width (take k fs)) (nth fs k .width) ≡ nth fs k .number % 256 ^ nth fs k .width
 unfolding bytesOf
 field-nth fs k rest h =
     let f = nth fs k in
     let after = bytesOf (drop (suc k) fs) in
     ap (λ (gs : List Field). field (bytesOf gs ++ rest) (width (take k fs)) (f .width)) (split-at fs k (record { width = 0; number = 0 }) h)
-    ∙ rw (bytesOf-append (take k fs) (f ∷ drop (suc k) fs), append-assoc (bytesOf (take k fs)) (bigBytes (f .width) (f .number) ++ after) rest, append-assoc (bigBytes (f .width) (f .number)) after rest)
+    ∙ rw (
+      bytesOf-append (take k fs) (f ∷ drop (suc k) fs),
+      append-assoc (bytesOf (take k fs))
+          (bigBytes (f .width) (f .number) ++ after) rest,
+      append-assoc (bigBytes (f .width) (f .number)) after rest,
+    )
     (field-after (take k fs) (f .width) (f .number) (after ++ rest))
 
 -- fields of these widths, cut from s
@@ -118,7 +124,8 @@ unfolding bytesOf field
 bytesOf-cut [] at s bytes h = refl
 bytesOf-cut (w ∷ ws) at s bytes h =
     let l : length (take w (drop at s)) ≡ w = length-take-le w (drop at s) (rw length-drop (omega arith)) in
-    let first : bigBytes w (big (take w (drop at s))) ≡ take w (drop at s) = rw l at (bytes-of-big (take w (drop at s)) (take-bytes w (drop at s) (drop-bytes at bytes))) in
+    let first : bigBytes w (big (take w (drop at s))) ≡ take w (drop at s)
+    = rw l at (bytes-of-big (take w (drop at s)) (take-bytes w (drop at s) (drop-bytes at bytes))) in
     rw (first, bytesOf-cut ws (at + w) s bytes (omega arith), take-add w (sum ws) (drop at s), drop-drop w at s)
 
 -- ---- the lengths of a record's parts

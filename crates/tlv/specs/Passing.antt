@@ -37,4 +37,10 @@ pass-found s at h e =
     let stands = step-stands (drop at s) h e in
     let long = stands .long in
     let l : length (drop at s) ≡ length s - at = length-drop at s in
-    rw (le-ltb (length (drop at s)) 32 (omega arith), stands .header, le-leb (at + 32) (length s) (omega arith), le-leb (h .length) (length s - 32 - at) (omega arith))
+    rw (
+      le-ltb (length (drop at s)) 32 (omega arith),
+      stands .header,
+      le-leb (at + 32) (length s) (omega arith),
+      le-leb (h .length)
+          (length s - 32 - at) (omega arith),
+    )

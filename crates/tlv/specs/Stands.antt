@@ -3,7 +3,7 @@
 use Prim.Native.Nat.{ℕ, _+_, _-_, _%_, _≤_, _<_, _^_}
 use mathlib.Core.Bool.{Bool, true, false, not, cond}
 use mathlib.Core.List.{List, [], _∷_, _++_, append-assoc, append-nil}
-use mathlib.Core.Option.{none, some}
+use mathlib.Core.Option.{none}
 use mathlib.Core.Path.{_≡_, refl, sym, ap, subst, _∙_}
 use native.Mathlib.Nat.{mod-eq-of-lt}
 use native.Mathlib.Omega.{arith}
@@ -11,11 +11,12 @@ use borrow.Author.Tests.{eqb-true, eq-eqb, ne-eqb, ltb-false, le-ltb, not-false}
 use lib.Dec.{eqb, lit<}
 use lib.ListN.{length, take, drop, length-append, length-drop}
 use lib.Seq.{take-at, drop-at, length-take-le, take-add}
-use Rattle.endian.specs.Bytes.{AllBytes, take-bytes, drop-bytes}
+use Rattle.slices.specs.Bytes.{AllBytes, take-bytes, drop-bytes}
+use Rattle.refusals.specs.Sheet.{lowest, lowest-none}
 use Rattle.endian.specs.Numbers.{bigBytes, bigBytes-mod, big-lt}
 use Rattle.xxh64.specs.Xxh64.{xxh64, xxh64-lt}
 use Rattle.tlv.specs.Layout.{Record, Fits, magic, field, fields, bytesOf, layout, head, bytesOf-cut, field-after, field-nth, length-front, length-head, length-layout}
-use Rattle.tlv.specs.Found.{Row, headerRows, valueRows, lowest, headerOf, made, end, found, unless, unless-found, step}
+use Rattle.tlv.specs.Found.{headerRows, valueRows, headerOf, made, end, found, foundUnless, found-unless, step}
 use Rattle.tlv.specs.declared.RecordHeader.{RecordHeader}
 
 -- none of the refusals 2 to 8 applies to what stands at the front of s, and h is its header
@@ -29,14 +30,6 @@ pub record Stands (s : List ℕ) (h : RecordHeader) : Type 0 where
   pub valueHash : field s 16 8 ≡ xxh64 (take (field s 8 8) (drop 32 s))
 
 -- ---- the step finds a record exactly where one stands
-
-lowest-none : (row : Row) (rows : List Row) → lowest (row ∷ rows) ≡ none → (row .applies ≡ false) × (lowest rows ≡ none)
-unfolding lowest
-lowest-none row rows e = go (row .applies) refl e
-  where
-    go : (t : Bool) → row .applies ≡ t → cond t (some (row .number)) (lowest rows) ≡ none → (row .applies ≡ false) × (lowest rows ≡ none)
-    go true p q = absurd (let z : _≡_ {A = ℕ} 0 1 = cc in omega arith)
-    go false p q = (p, q)
 
 same : (x y : ℕ) → not (eqb x y) ≡ false → x ≡ y
 same x y e = eqb-true x y (not-false (eqb x y) e)
@@ -65,10 +58,10 @@ pub step-stands : (s : List ℕ) (h : RecordHeader) → step s ≡ found h → S
 unfolding step
 step-stands s h e = go (eqb (length s) 0) e
   where
-    go : (t : Bool) → cond t end (unless (lowest (headerRows s ++ valueRows s)) (headerOf s)) ≡ found h → Stands s h
+    go : (t : Bool) → cond t end (foundUnless (lowest (headerRows s ++ valueRows s)) (headerOf s)) ≡ found h → Stands s h
     go true e = absurd (let z : _≡_ {A = ℕ} 0 1 = cc in omega arith)
     go false e =
-        let f = unless-found (lowest (headerRows s ++ valueRows s)) (headerOf s) h e in
+        let f = found-unless (lowest (headerRows s ++ valueRows s)) (headerOf s) h e in
         subst (λ (g : RecordHeader). Stands s g) (f .1) (all-passed s (f .0))
 
 pub stands-step : (s : List ℕ) (h : RecordHeader) → Stands s h → step s ≡ found h
@@ -76,7 +69,18 @@ unfolding step headerRows valueRows lowest
 stands-step s h f =
     let l : field s 8 8 ≡ h .length = (unfold headerOf in ap (λ (g : RecordHeader). g .length) (f .header)) in
     let n : length s ≡ 0 → ⊥ = λ e. omega (arith, f .long) in
-    rw (ne-eqb (length s) 0 n, le-ltb (length s) 32 (omega (arith, f .long)), f .magic, f .version, f .hashType, eq-eqb _ _ (f .headerHash), le-ltb (length s - 32) (field s 8 8) (omega (arith, f .long)), eq-eqb _ _ (f .valueHash), f .header)
+    rw (
+      ne-eqb (length s) 0 n,
+      le-ltb (length s) 32 (omega (arith, f .long)),
+      f .magic,
+      f .version,
+      f .hashType,
+      eq-eqb _ _
+          (f .headerHash),
+      le-ltb (length s - 32) (field s 8 8) (omega (arith, f .long)),
+      eq-eqb _ _ (f .valueHash),
+      f .header,
+    )
 
 -- ---- a record stands exactly where the layout of one does
 

@@ -3,8 +3,9 @@ ghost use mathlib.Core.Path.{_≡_};
 ghost use Prim.Native.Nat.{_+_, _≤_, _<_, _^_};
 ghost use lib.Dec.{leb};
 ghost use lib.ListN.{length, drop};
+ghost use Rattle.refusals.specs.Sheet.{lowest};
 ghost use Rattle.tlv.specs.Layout.{field};
-ghost use Rattle.tlv.specs.Found.{header, step, made, noHeader, fieldsOf, found, unless, lowest, valueRows, numberOf, foundHeader, foundStep};
+ghost use Rattle.tlv.specs.Found.{header, step, made, noHeader, fieldsOf, found, foundUnless, valueRows, numberOf, foundHeader, foundStep};
 ghost use Rattle.tlv.specs.Passing.{inside, passAt};
 use endian::Number;
 
@@ -57,7 +58,7 @@ impl RecordHeader {
     // The header's length, and the longest pack.
     pub const LENGTH: usize = 32;
 
-    pub const LIMIT: usize = 4_294_967_295;
+    pub const LIMIT: usize = refusals::PACK_LIMIT;
 
     // Where the fields begin.
     const VALUE_LENGTH: usize = 8;
@@ -156,7 +157,7 @@ fn value_fits(length: u64, left: usize) -> bool
 // The step where a header stands.
 fn step_value(s: &[u8], h: RecordHeader) -> Step
     requires { ⌜ header (now s) ≡ found h ⌝ }
-    ensures { λ r. ⌜ foundStep r ≡ unless (lowest (valueRows (now (s .entry)))) h ⌝ }
+    ensures { λ r. ⌜ foundStep r ≡ foundUnless (lowest (valueRows (now (s .entry)))) h ⌝ }
 {
     let left = s.len() - RecordHeader::LENGTH;
     let length = h.length;

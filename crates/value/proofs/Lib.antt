@@ -1,2 +1,1 @@
 mod Lookups
-mod Counts

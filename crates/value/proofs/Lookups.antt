@@ -1,19 +1,13 @@
 -- What the answer of a lookup says of the value under a key.
-use Prim.Native.Nat.{ℕ, _-_, _<_}
+use Prim.Native.Nat.{ℕ, _<_}
 use mathlib.Core.List.{List}
 use mathlib.Core.Option.{Option, none}
 use mathlib.Core.Path.{_≡_, sym, ap, _∙_}
-use native.Mathlib.Omega.{arith}
-use lib.ListN.{length, take, drop, length-drop}
-use lib.Seq.{take-all}
+use lib.ListN.{length}
 use Rattle.msgpack.specs.Lookup.{placeOf, lastValue, under}
 use Rattle.msgpack.specs.LookupLaws.{value-inside}
 use Rattle.msgpack.specs.declared.Found.{Found}
 use Rattle.msgpack.specs.declared.Found.the-variants.{At, Missing, Broken}
-
--- the part of s from k to its end
-pub part-to-end : (k : ℕ) (s : List ℕ) → take (length s - k) (drop k s) ≡ drop k s
-part-to-end k s = take-all (length s - k) (drop k s) (omega (arith, length-drop k s))
 
 module _ (key m : List ℕ) (r : Found) (is : placeOf r ≡ lastValue key m) where
   pub found-inside : (p : ℕ) → r ≡ At p → p < length m

@@ -5,7 +5,7 @@ use mathlib.Core.List.{List}
 use mathlib.Core.Option.{Option, none, some}
 use lib.ListN.{drop}
 use Rattle.msgpack.specs.Readers.{Int, plus, minus, readInteger, Part, part, readBinary}
-use Rattle.msgpack.specs.Lookup.{Place, found, missing, broken, lastValue, under}
+use Rattle.msgpack.specs.Lookup.{ValuePlace, found, missing, broken, lastValue, under}
 
 -- ---- an integer of at least 0
 
@@ -33,7 +33,7 @@ bytesUnder key m = under key m none (λ p. shifted p (readBinary (drop p m)))
 
 -- ---- any item
 
-abbrev pub isFound : Place → Bool
+abbrev pub isFound : ValuePlace → Bool
 isFound (found p) = true
 isFound missing = false
 isFound broken = false

@@ -43,7 +43,8 @@ part start len compression encrypted = record { start = start; len = len; compre
 abbrev pub onlyIf : {A : Type 0} → Bool → Option A → Option A
 onlyIf test a = cond test a none
 
--- what is told without a secondary part: that part then has length 0 and the primary's `c` and `z`. Document 01 leaves its start free: here it is the end of the header m
+-- what is told without a secondary part: that part then has length 0 and the primary's `c` and `z`. Document 01 leaves its start free: here
+-- it is the end of the header m
 abbrev pub toldAlone : List ℕ → msgpack.Part → (c v : ℕ) → Told
 toldAlone m bytes c v =
     record {
@@ -68,7 +69,7 @@ toldWith t m l c =
       version = t .version;
       primary = t .primary;
       present = true;
-      secondary = part (t .secondary .start) l c (isThere encryptionKey m || t .secondary .encrypted);
+      secondary = part (t .secondary .start) l c (isThere encryptionKey m || t .primary .encrypted);
     }
 
 -- the same with the secondary part of which the map m tells; `c` of its own stands for that part, and otherwise the primary's does
@@ -76,7 +77,7 @@ unfoldable pub withMap : ℕ → Told → List ℕ → Option Told
 withMap limit t m =
     ifThere (naturalUnder lengthKey m none) λ l.
     onlyIf (leb l limit)
-    (ifThere (naturalUnder compressionKey m (some (t .secondary .compression))) λ c.
+    (ifThere (naturalUnder compressionKey m (some (t .primary .compression))) λ c.
     some (toldWith t m l c))
 
 -- the same with the list at the front of s, which is of no item or of one map

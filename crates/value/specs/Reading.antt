@@ -6,6 +6,7 @@ use mathlib.Core.Option.{Option, none, some}
 use mathlib.Core.Path.{_≡_}
 use lib.Dec.{eqb}
 use lib.ListN.{length, take, drop}
+use Rattle.refusals.specs.Answers.{Answer, refused, result}
 use Rattle.msgpack.specs.Items.{Passage, whole, cut, tooDeep, passOver}
 use Rattle.value.specs.Header.{part, header}
 use Rattle.value.specs.declared.Part.{Part}
@@ -15,24 +16,19 @@ use Rattle.value.specs.declared.Fault.the-variants.{Cut, TooDeep, Header
 use Rattle.value.specs.declared.Reading.{Reading}
 use Rattle.value.specs.declared.Reading.the-variants as reading-answer
 
--- what a value tells, or the number of its refusal
-pub data Answer : Type 0 where
-  told : Told → Answer
-  refused : ℕ → Answer
-
 -- a header of n bytes and the secondary part have to fill the value s
-abbrev pub filled : ℕ → List ℕ → Option Told → Answer
-filled n s (some t) = cond (eqb (n + t .secondary .len) (length s)) (told t) (refused 12)
+abbrev pub filled : ℕ → List ℕ → Option Told → Answer Told
+filled n s (some t) = cond (eqb (n + t .secondary .len) (length s)) (result t) (refused 12)
 filled n s none = refused 11
 
 -- by the first item
-abbrev pub byItem : ℕ → List ℕ → Passage → Answer
+abbrev pub byItem : ℕ → List ℕ → Passage → Answer Told
 byItem limit s (whole n) = filled n s (header limit (take n s))
 byItem limit s cut = refused 9
 byItem limit s tooDeep = refused 10
 
--- the value s, in which a secondary part has at most `limit` bytes
-unfoldable pub reading : ℕ → List ℕ → Answer
+-- what the value s tells, in which a secondary part has at most `limit` bytes, or the number of its refusal
+unfoldable pub reading : ℕ → List ℕ → Answer Told
 reading limit s = byItem limit s (passOver s)
 
 -- ---- what each answer of the code says
@@ -43,8 +39,8 @@ numberOf TooDeep = 10
 numberOf Header = 11
 numberOf NotFilled = 12
 
-abbrev pub answerOf : Reading → Answer
-answerOf (reading-answer.Told t) = told t
+abbrev pub answerOf : Reading → Answer Told
+answerOf (reading-answer.Told t) = result t
 answerOf (reading-answer.Refused f) = refused (numberOf f)
 
 -- ---- the parts of a value
@@ -53,12 +49,12 @@ abbrev pub emptyPart : Part
 emptyPart = part 0 0 0 false
 
 -- of a refused value: the empty part
-abbrev pub primaryPart : Answer → Part
-primaryPart (told t) = t .primary
+abbrev pub primaryPart : Answer Told → Part
+primaryPart (result t) = t .primary
 primaryPart (refused n) = emptyPart
 
-abbrev pub secondaryPart : Answer → Part
-secondaryPart (told t) = t .secondary
+abbrev pub secondaryPart : Answer Told → Part
+secondaryPart (result t) = t .secondary
 secondaryPart (refused n) = emptyPart
 
 -- r is the part p of s: it lies inside, and has this content

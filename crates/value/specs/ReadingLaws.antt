@@ -1,26 +1,28 @@
 -- The parts of a value that is read lie inside it: the primary part in the header, and the secondary part is all that follows the header.
 use Prim.Native.Nat.{ℕ, _+_, _≤_}
 use mathlib.Core.Bool.{Bool, true, false, cond}
-use mathlib.Core.List.{List, _++_}
+use mathlib.Core.List.{List}
 use mathlib.Core.Option.{Option, none, some}
 use mathlib.Core.Path.{_≡_, refl, sym, ap, _∙_}
 use native.Mathlib.Omega.{arith}
 use borrow.Author.Tests.{eq-eqb, eqb-true}
 use lib.Dec.{leb, eqb}
-use lib.ListN.{length, take, drop, length-drop, take-append-drop}
-use lib.Seq.{take-all, length-take-le, take-append-le, drop-append-le, drop-drop}
+use lib.ListN.{length, take, drop, length-drop}
+use lib.Seq.{take-all, length-take-le}
+use Rattle.slices.specs.Logic.{absurd-numbers}
+use Rattle.slices.specs.Lists.{part-of-front}
+use Rattle.refusals.specs.Answers.{result, refused}
 use Rattle.msgpack.specs.Formats.{binaryKind}
 use Rattle.msgpack.specs.Items.{Passage, whole, cut, tooDeep, passOver, depthAllowed}
 use Rattle.msgpack.specs.Readers.{Counted, readArray, readBinary}
 use Rattle.msgpack.specs.Readers as msgpack
-use Rattle.msgpack.specs.Lookup.{Place, found, missing, broken, lastValue, atPlace, under, ifThere}
-use Rattle.msgpack.specs.HeadLaws.{absurd-numbers}
+use Rattle.msgpack.specs.Lookup.{ValuePlace, found, missing, broken, lastValue, atPlace, under, ifThere}
 use Rattle.msgpack.specs.PassingLaws.{bounded}
 use Rattle.msgpack.specs.ReaderLaws.{part-inside}
 use Rattle.msgpack.specs.LookupLaws.{value-inside}
 use Rattle.value.specs.Fields.{naturalUnder, shifted, bytesUnder}
 use Rattle.value.specs.Header.{primaryKey, secondaryKey, lengthKey, compressionKey, versionKey, onlyIf, alone, withMap, withItems, withList, header}
-use Rattle.value.specs.Reading.{told, refused, filled, byItem, reading}
+use Rattle.value.specs.Reading.{filled, byItem, reading}
 use Rattle.value.specs.declared.Told.{Told}
 
 -- ---- what an answer that is there came from
@@ -54,7 +56,7 @@ bytes-inside key m p e = by (lastValue key m) refl e
         rw (← is) (omega (arith, part-inside binaryKind (drop k m) b q, length-drop k m))
     at k none l q f = absurd-numbers (cc)
 
-    by : (r : Place) → lastValue key m ≡ r → atPlace none (λ k. shifted k (readBinary (drop k m))) r ≡ some p → p .start + p .size ≤ length m
+    by : (r : ValuePlace) → lastValue key m ≡ r → atPlace none (λ k. shifted k (readBinary (drop k m))) r ≡ some p → p .start + p .size ≤ length m
     by (found k) q f = at k (readBinary (drop k m)) (omega (arith, value-inside key m k q)) refl f
     by missing q f = absurd-numbers (cc)
     by broken q f = absurd-numbers (cc)
@@ -77,7 +79,7 @@ module _ (limit : ℕ) (m : List ℕ) (t : Told) (placed : Placed m t) (u : Told
   unfolding withMap
   map-placed s e =
       let l = if-there (naturalUnder lengthKey s none) _ u e in
-      let c = if-there (naturalUnder compressionKey s (some (t .secondary .compression))) _ u (only-if (leb (l .first) limit) _ u (l .then-some)) in
+      let c = if-there (naturalUnder compressionKey s (some (t .primary .compression))) _ u (only-if (leb (l .first) limit) _ u (l .then-some)) in
       rw (← some-injective (c .then-some)) (record { primary-is = placed .primary-is; after-header = placed .after-header })
 
   list-placed : (s : List ℕ) → withList limit t s ≡ some u → Placed m u
@@ -99,13 +101,14 @@ header-placed limit m t e =
     let a = if-there (alone m) _ t e in
     by (a .first) (alone-placed m (a .first) (a .is)) (lastValue secondaryKey m) (a .then-some)
   where
-    by : (u : Told) → Placed m u → (r : Place) → atPlace (some u) (λ p. withList limit u (drop p m)) r ≡ some t → Placed m t
+    by : (u : Told) → Placed m u → (r : ValuePlace) → atPlace (some u) (λ p. withList limit u (drop p m)) r ≡ some t → Placed m t
     by u p (found k) q = list-placed limit m u p t (drop k m) q
     by u p missing q = let is : u ≡ t = cc in rw (← is) p
     by u p broken q = absurd-numbers (cc)
 
 -- the primary part is what stands under `e`
-pub primary-is : (limit : ℕ) (m : List ℕ) (t : Told) → header limit m ≡ some t → bytesUnder primaryKey m ≡ some (msgpack.part (t .primary .start) (t .primary .len))
+pub primary-is : (limit : ℕ) (m : List ℕ) (t : Told) → header limit m ≡ some t
+    → bytesUnder primaryKey m ≡ some (msgpack.part (t .primary .start) (t .primary .len))
 primary-is limit m t e = header-placed limit m t e .primary-is
 
 -- ---- the value
@@ -119,37 +122,37 @@ pub record IsTold (limit : ℕ) (s : List ℕ) (t : Told) : Type 0 where
 header-end : (limit : ℕ) (s : List ℕ) (n : ℕ) (t : Told) → passOver s ≡ whole n → header limit (take n s) ≡ some t → t .secondary .start ≡ n
 header-end limit s n t w e = header-placed limit (take n s) t e .after-header ∙ length-take-le n s (bounded depthAllowed s n w .within)
 
-pub is-told : (limit : ℕ) (s : List ℕ) (t : Told) → reading limit s ≡ told t → IsTold limit s t
+pub is-told : (limit : ℕ) (s : List ℕ) (t : Told) → reading limit s ≡ result t → IsTold limit s t
 unfolding reading
 is-told limit s t e = by (passOver s) refl e
   where
-    fill : (n : ℕ) → passOver s ≡ whole n → (d : Option Told) → header limit (take n s) ≡ d → filled n s d ≡ told t → IsTold limit s t
+    fill : (n : ℕ) → passOver s ≡ whole n → (d : Option Told) → header limit (take n s) ≡ d → filled n s d ≡ result t → IsTold limit s t
     fill n w none q f = absurd-numbers (cc)
     fill n w (some u) q f = test (eqb (n + u .secondary .len) (length s)) refl f
       where
-        test : (b : Bool) → eqb (n + u .secondary .len) (length s) ≡ b → cond b (told u) (refused 12) ≡ told t → IsTold limit s t
+        test : (b : Bool) → eqb (n + u .secondary .len) (length s) ≡ b → cond b (result u) (refused 12) ≡ result t → IsTold limit s t
         test true g h =
             let is : u ≡ t = cc in
             let end = header-end limit s n u w q in
             rw (← is) (record { first-item = rw end w; header-tells = ap (λ (k : ℕ). header limit (take k s)) end ∙ q; fills = rw end (eqb-true _ _ g) })
         test false g h = absurd-numbers (cc)
 
-    by : (r : Passage) → passOver s ≡ r → byItem limit s r ≡ told t → IsTold limit s t
+    by : (r : Passage) → passOver s ≡ r → byItem limit s r ≡ result t → IsTold limit s t
     by (whole n) w f = fill n w (header limit (take n s)) refl f
     by cut w f = absurd-numbers (cc)
     by tooDeep w f = absurd-numbers (cc)
 
-pub told-is : (limit : ℕ) (s : List ℕ) (t : Told) → IsTold limit s t → reading limit s ≡ told t
+pub told-is : (limit : ℕ) (s : List ℕ) (t : Told) → IsTold limit s t → reading limit s ≡ result t
 unfolding reading
 told-is limit s t i = rw (i .first-item, i .header-tells, eq-eqb _ _ (i .fills))
 
 -- ---- the parts lie inside
 
-pub record Inside (s : List ℕ) (t : Told) : Type 0 where
+pub record PartsInside (s : List ℕ) (t : Told) : Type 0 where
   pub primary-first : t .primary .start + t .primary .len ≤ t .secondary .start
   pub secondary-last : t .secondary .start + t .secondary .len ≡ length s
 
-pub parts-inside : (limit : ℕ) (s : List ℕ) (t : Told) → reading limit s ≡ told t → Inside s t
+pub parts-inside : (limit : ℕ) (s : List ℕ) (t : Told) → reading limit s ≡ result t → PartsInside s t
 parts-inside limit s t e =
     let i = is-told limit s t e in
     let n : ℕ = t .secondary .start in
@@ -161,24 +164,13 @@ parts-inside limit s t e =
 
 -- ---- what the parts hold
 
-within-front : (a b n : ℕ) (s : List ℕ) → a + b ≤ n → n ≤ length s → take b (drop a (take n s)) ≡ take b (drop a s)
-within-front a b n s h w =
-    let l : length (take n s) ≡ n = length-take-le n s w in
-    let p : a ≤ length (take n s) = omega arith in
-    let q : b ≤ length (drop a (take n s)) = omega (arith, length-drop a (take n s)) in
-    let whole : take n s ++ drop n s ≡ s = take-append-drop n s in
-    sym (take-append-le b (drop a (take n s)) (drop n s) q) ∙ ap (take b) (sym (drop-append-le a (take n s) (drop n s) p) ∙ ap (drop a) whole)
-
--- a part of a part
-pub part-of-part : (s : List ℕ) (at n : ℕ) → at + n ≤ length s → (start len : ℕ) → start + len ≤ n → take len (drop start (take n (drop at s))) ≡ take len (drop (at + start) s)
-part-of-part s at n within start len h = within-front start len n (drop at s) h (omega (arith, length-drop at s)) ∙ ap (take len) (drop-drop start at s)
-
-module _ (limit : ℕ) (s : List ℕ) (t : Told) (e : reading limit s ≡ told t) where
+module _ (limit : ℕ) (s : List ℕ) (t : Told) (e : reading limit s ≡ result t) where
   -- the primary part holds the bytes under `e` of the header
-  pub primary-content : take (t .primary .len) (drop (t .primary .start) s) ≡ msgpack.content (take (t .secondary .start) s) (msgpack.part (t .primary .start) (t .primary .len))
+  pub primary-content : take (t .primary .len) (drop (t .primary .start) s)
+      ≡ msgpack.content (take (t .secondary .start) s) (msgpack.part (t .primary .start) (t .primary .len))
   primary-content =
       let i = parts-inside limit s t e in
-      sym (within-front (t .primary .start) (t .primary .len) (t .secondary .start) s (i .primary-first) (omega (arith, i .secondary-last)))
+      sym (part-of-front s (t .secondary .start) (t .primary .start) (t .primary .len) (omega (arith, i .secondary-last)) (i .primary-first))
 
   -- the secondary part holds all that follows the header
   pub secondary-content : take (t .secondary .len) (drop (t .secondary .start) s) ≡ drop (t .secondary .start) s

@@ -2,9 +2,9 @@
 ghost use mathlib.Core.Path.{_≡_};
 ghost use Prim.Native.Nat.{_+_, _≤_};
 ghost use lib.ListN.{length, take, drop};
+ghost use Rattle.refusals.specs.Limit.{packLimit};
 ghost use Rattle.endian.specs.Places.{numberOf as numberRead};
 ghost use Rattle.msgpack.specs.Readers.{partOf, readBinary};
-ghost use Rattle.pack.specs.Reading.{packLimit};
 ghost use Rattle.value.specs.Fields.{readNatural, naturalUnder, shifted, bytesUnder, isThere};
 ghost use Rattle.value.specs.Header.{alone, withMap, withList, header, toldOf};
 ghost use Rattle.value.specs.Reading.{filled, reading, numberOf, answerOf, primaryPart, secondaryPart, IsPart};
@@ -14,7 +14,7 @@ use msgpack::Found;
 use msgpack::Integer;
 use msgpack::Items;
 use msgpack::Passed;
-use tlv::RecordHeader;
+use slices::Place;
 
 // Refusals 9 to 12 of document 01.
 pub enum Fault {
@@ -173,13 +173,14 @@ fn with_map(t: Told, map: &[u8]) -> Described
         return Described::Not;
     };
     let len = l as usize;
-    if RecordHeader::LIMIT < len {
+    if refusals::PACK_LIMIT < len {
         return Described::Not;
     }
-    let Number::Read(compression) = natural_under(map, b"c", Number::Read(part.compression)) else {
+    let Number::Read(compression) = natural_under(map, b"c", Number::Read(primary.compression))
+    else {
         return Described::Not;
     };
-    let encrypted = is_there(map, b"z") | part.encrypted;
+    let encrypted = is_there(map, b"z") | primary.encrypted;
     Described::As(Told {
         version: t.version,
         primary,
@@ -261,9 +262,13 @@ fn part_of(value: &[u8], part: Part) -> &[u8]
     requires { ⌜ part .start + part .len ≤ length (now value) ⌝ }
     ensures { λ r. ⌜ IsPart (now (value .entry)) part (now r) ⌝ }
 {
-    let start = part.start;
-    let end = start + part.len;
-    &value[start..end]
+    slices::part(
+        value,
+        Place {
+            start: part.start,
+            len: part.len,
+        },
+    )
 }
 
 // The primary part, as a part of the value; of a refused value the empty part.

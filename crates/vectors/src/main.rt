@@ -1,60 +1,73 @@
-// Prints, for each vector, its name, what is expected and what is found. The stored stdout has both
-// columns, so a run that differs in either fails.
-ghost use mathlib.Core.Path.{_≡_};
-ghost use lib.ListN.{length};
-use libc::STDOUT_FILENO;
+// Runs vectors through the crates xxh64 and msgpack. Standard input, which tests/vectors.py makes, is how
+// many vectors there are, and for each its title, its kind, its bytes, and what else the kind takes. A
+// line of standard output is the title and what is found.
+use crate::input::read_field;
+use crate::input::read_number;
+use crate::show::say;
 
-mod msgpack_vectors;
+mod heads;
+mod input;
+mod show;
 
-// The input of the hash vectors: the byte at k is 73 k + 5, modulo 256.
-fn input() -> [u8; 222]
-    ensures { λ r. ⌜ 222 ≡ length r ⌝ }
-{
-    let mut bytes = [0u8; 222];
-    let mut k: usize = 0;
-    while k < 222 {
-        bytes[k] = ((k * 73 + 5) % 256) as u8;
-        k += 1;
+const HASH: usize = 0;
+
+const ITEM: usize = 1;
+
+const INTEGER: usize = 2;
+
+const TEXT: usize = 3;
+
+const BINARY: usize = 4;
+
+const BOOLEAN: usize = 5;
+
+const ARRAY: usize = 6;
+
+const MAP: usize = 7;
+
+const KEY: usize = 8;
+
+// The key is a field of its own.
+fn look_up(map: &[u8]) {
+    let mut key = io::buffer();
+    let n = read_field(&mut key);
+    show::say_found(msgpack::map_value(map, &key[0..n]));
+}
+
+fn run_kind(kind: usize, bytes: &[u8]) {
+    match kind {
+        HASH => show::say_hash(xxh64::xxh64(bytes)),
+        ITEM => show::say_passed(msgpack::pass_over(bytes)),
+        INTEGER => show::say_integer(msgpack::read_integer(bytes)),
+        TEXT => show::say_content(msgpack::read_text(bytes)),
+        BINARY => show::say_content(msgpack::read_binary(bytes)),
+        BOOLEAN => show::say_boolean(msgpack::read_boolean(bytes)),
+        ARRAY => show::say_items(msgpack::read_array(bytes)),
+        MAP => show::say_items(msgpack::read_map(bytes)),
+        KEY => look_up(bytes),
+        _ => heads::run(kind),
     }
-    bytes
 }
 
-fn show(n: usize, expected: u64, found: u64) {
-    io::write_all(STDOUT_FILENO, b"xxh64 ");
-    io::print_decimal(STDOUT_FILENO, n as u64);
-    io::write_all(STDOUT_FILENO, b" ");
-    io::print_hex(STDOUT_FILENO, expected, 16);
-    io::write_all(STDOUT_FILENO, b" ");
-    io::print_hex(STDOUT_FILENO, found, 16);
-    io::write_all(STDOUT_FILENO, b"\n");
+fn run_vector(buffer: &mut [u8]) {
+    let title = read_field(buffer);
+    say(&buffer[0..title]);
+    let kind = read_number();
+    let n = read_field(buffer);
+    run_kind(kind, &buffer[0..n]);
+    say(b"\n");
 }
 
-fn hash(input: &[u8], n: usize, expected: u64) {
-    if n <= input.len() {
-        show(n, expected, xxh64::xxh64(&input[..n]));
+// Below 65,536 of them, so that a wrong input too comes to an end.
+fn run(buffer: &mut [u8]) {
+    let mut left = read_number() % 65536;
+    while 0 < left {
+        run_vector(buffer);
+        left -= 1;
     }
-}
-
-// XXH64 of the first n bytes of the input. The values are those of Debian's libxxhash 0.8.1.
-fn hashes(input: &[u8]) {
-    hash(input, 0, 0xEF46DB3751D8E999);
-    hash(input, 1, 0x50FF15A81340970F);
-    hash(input, 3, 0x4FE01DC597D43618);
-    hash(input, 4, 0x44660F2F3CEB9EA7);
-    hash(input, 7, 0xDECB0785A46E4099);
-    hash(input, 8, 0xD07ADB86CF82DCB2);
-    hash(input, 14, 0xEA70A536BF0025E5);
-    hash(input, 31, 0x40AC04D6FBE5056B);
-    hash(input, 32, 0xD52B1688AB9BC2B5);
-    hash(input, 33, 0x175C983E458FBD0B);
-    hash(input, 63, 0x088B4640A04AE0AA);
-    hash(input, 64, 0xA25A860384A36D7C);
-    hash(input, 100, 0x5F8E0F12DED2ABD5);
-    hash(input, 222, 0x66432F25198DAD5E);
 }
 
 fn main() {
-    let bytes = input();
-    hashes(&bytes);
-    msgpack_vectors::run();
+    let mut buffer = io::large_buffer();
+    run(&mut buffer);
 }

@@ -7,8 +7,8 @@ use mathlib.Core.Path.{_≡_, refl, sym, ap, _∙_}
 use borrow.Author.Tests.{leb-true}
 use lib.Dec.{leb}
 use lib.ListN.{length, take}
-use Rattle.pack.specs.Reading.{packLimit}
-use Rattle.identifier.specs.Texts.{both}
+use Rattle.slices.specs.Logic.{both}
+use Rattle.refusals.specs.Limit.{packLimit}
 use Rattle.identifier.specs.Ulid.{isUlid}
 use Rattle.identifier.specs.Identity.{Identity, identity, isValid}
 use Rattle.identifier.specs.Held.{named, isAdmitted}

@@ -7,9 +7,10 @@ use native.Mathlib.Omega.{arith}
 use borrow.Author.Tests.{le-leb}
 use lib.ListN.{length, take, drop, length-append}
 use lib.Seq.{length-take-le, take-take, take-append-le, drop-at}
+use Rattle.slices.specs.Overwriting.{overwritten, writtenBytes, written-within, length-overwritten, overwritten-more}
 use Rattle.endian.specs.Numbers.{bigBytes, length-bigBytes}
-use Rattle.endian.specs.Places.{overwritten, writtenBytes, writtenAt, written-within, length-overwritten, overwritten-more, placed-overwritten, within-holds}
-use Rattle.msgpack.specs.Writers.{nextPlace}
+use Rattle.endian.specs.Places.{writtenAt, number-written}
+use Rattle.msgpack_heads.specs.Heads.{nextPlace}
 use Rattle.writer.specs.Putting.{Puts, toldPlace}
 
 -- ---- one after the other
@@ -74,8 +75,7 @@ module _ (s : List ℕ) (at : ℕ) (h v : List ℕ) (fits : at + length (h ++ v)
 -- ---- a number
 
 pub number-put : {s t : List ℕ} {at m : ℕ} (w n : ℕ) → t ≡ writtenAt s at w n → m ≡ at + w → w ≤ 8 → at + w ≤ length s → Puts s at (bigBytes w n) t m
-unfolding writtenAt
 number-put {s} {t} {at} {m} w n e p narrow inside = record {
-  left = e ∙ rw (within-holds (length s) at w (record { narrow = narrow; inside = inside })) (placed-overwritten s at w n);
+  left = e ∙ number-written s at w n (record { narrow = narrow; inside = inside });
   place = rw (length-bigBytes w n) p;
 }

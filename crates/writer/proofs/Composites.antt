@@ -6,8 +6,8 @@ use mathlib.Core.Option.{Option, some}
 use mathlib.Core.Path.{_≡_, refl, sym, ap, _∙_}
 use native.Mathlib.Omega.{arith}
 use lib.ListN.{length}
-use Rattle.endian.specs.Places.{writtenBytes, length-overwritten}
-use Rattle.msgpack.specs.Writers.{textHead, nextPlace}
+use Rattle.slices.specs.Overwriting.{writtenBytes, length-overwritten}
+use Rattle.msgpack_heads.specs.Heads.{textHead, nextPlace}
 use Rattle.identifier.specs.Identity.{Identity, isValid}
 use Rattle.identifier.specs.Composite.{compositeText}
 use Rattle.identifier.specs.Writing.{left, write-done}

@@ -5,7 +5,7 @@ use mathlib.Core.Path.{_≡_, refl, ap, _∙_}
 use native.Mathlib.Omega.{arith}
 use lib.ListN.{length, length-append}
 use Rattle.endian.specs.Numbers.{littleBytes, bigBytes}
-use Rattle.msgpack.specs.Writers.{textForm, containerForm, textHead, binaryHead, unsignedInteger, mapHead}
+use Rattle.msgpack_heads.specs.Heads.{textForm, containerForm, textHead, binaryHead, unsignedInteger, mapHead}
 use Rattle.identifier.specs.Identity.{Identity}
 use Rattle.identifier.specs.Composite.{compositeText}
 use Rattle.primary.specs.Parts.{bucketKey, objectKey, ulidKey, deleteIdKey}

@@ -3,5 +3,5 @@ mod Sizes
 mod Fixed
 mod Composites
 mod Headers
-mod Storing
+mod Stores
 mod Calls

@@ -7,7 +7,7 @@ use borrow.Author.Tests.{lt-ltb, le-ltb}
 use lib.Dec.{ltb}
 use lib.ListN.{length}
 use Rattle.endian.specs.Numbers.{length-bigBytes}
-use Rattle.msgpack.specs.Writers.{Form, form, formBytes, sizedForm, textForm, unsignedForm, textHead, binaryHead, unsignedInteger}
+use Rattle.msgpack_heads.specs.Heads.{Form, form, formBytes, sizedForm, textForm, unsignedForm, textHead, binaryHead, unsignedInteger}
 
 form-length : (f g : Form) (n : ℕ) → f ≡ g → length (formBytes f n) ≡ suc (g .width)
 form-length f g n e = ap suc (length-bigBytes (f .width) n) ∙ ap (λ (h : Form). suc (h .width)) e

@@ -8,11 +8,12 @@ use native.Mathlib.Omega.{arith}
 use borrow.Author.Tests.{lt-leb, ltb-true, ltb-false}
 use lib.Dec.{ltb}
 use lib.ListN.{length, length-append}
+use Rattle.slices.specs.Logic.{absurd-numbers}
+use Rattle.refusals.specs.Limit.{packLimit}
+use Rattle.refusals.specs.Answers.{result, refused}
 use Rattle.tlv.specs.Layout.{layout, length-layout}
-use Rattle.pack.specs.Reading.{packLimit}
-use Rattle.msgpack.specs.HeadLaws.{absurd-numbers}
 use Rattle.writer.specs.Values.{blockHeader, blockPart, blockValue, partHeader, partValue, deletePart}
-use Rattle.writer.specs.Writing.{Item, block, version, versionDelete, deletion, tagOf, valueOf, recordOf, itemBytes, admitted, count, refused, counted, written}
+use Rattle.writer.specs.Writing.{Item, block, version, versionDelete, deletion, tagOf, valueOf, recordOf, itemBytes, admitted, counted, written}
 
 -- what has no bound of its own: a block's data, or a primary part
 abbrev pub contentOf : Item → List ℕ
@@ -33,7 +34,8 @@ content-within (versionDelete p) = part-within p
 content-within (deletion i u) = part-within (deletePart i u)
 
 module _ (limit room used : ℕ) where
-  pub too-long : (tag : ℕ) (content value : List ℕ) → length content ≤ length value → limit < length content → refused 20 ≡ counted limit room used (length (layout (recordOf tag value)))
+  pub too-long : (tag : ℕ) (content value : List ℕ) → length content ≤ length value → limit < length content
+      → refused 20 ≡ counted limit room used (length (layout (recordOf tag value)))
   unfolding counted
   too-long tag content value within h =
       let k : limit < used + length (layout (recordOf tag value)) = omega (arith, length-layout (recordOf tag value)) in
@@ -48,7 +50,7 @@ module _ (limit room used : ℕ) where
       go false = refl
 
 -- so a length that a head is written for is below 2^32
-pub heads-hold : (room used n : ℕ) (item : Item) → written packLimit room used (some item) ≡ count n → length (contentOf item) < 2 ^ 32
+pub heads-hold : (room used n : ℕ) (item : Item) → written packLimit room used (some item) ≡ result n → length (contentOf item) < 2 ^ 32
 heads-hold room used n item e = go (ltb packLimit (length (contentOf item))) refl
   where
     go : (t : Bool) → ltb packLimit (length (contentOf item)) ≡ t → length (contentOf item) < 2 ^ 32

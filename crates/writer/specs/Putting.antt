@@ -4,8 +4,8 @@ use mathlib.Core.List.{List, _++_}
 use mathlib.Core.Option.{Option, none, some}
 use mathlib.Core.Path.{_≡_}
 use lib.ListN.{length}
+use Rattle.slices.specs.Overwriting.{overwritten}
 use Rattle.endian.specs.Numbers.{bigBytes}
-use Rattle.endian.specs.Places.{overwritten}
 use Rattle.tlv.specs.Layout.{magic}
 use Rattle.tlv.specs.declared.RecordHeader.{RecordHeader}
 
@@ -20,5 +20,5 @@ toldPlace none = 0
 toldPlace (some n) = n
 
 -- bytes 0..29 of a record with this header
-unfoldable pub front : RecordHeader → List ℕ
-front h = bigBytes 8 magic ++ bigBytes 8 (h .length) ++ bigBytes 8 (h .hash) ++ bigBytes 1 0 ++ bigBytes 2 (h .tag) ++ bigBytes 1 8 ++ bigBytes 2 0
+unfoldable pub fieldBytes : RecordHeader → List ℕ
+fieldBytes h = bigBytes 8 magic ++ bigBytes 8 (h .length) ++ bigBytes 8 (h .hash) ++ bigBytes 1 0 ++ bigBytes 2 (h .tag) ++ bigBytes 1 8 ++ bigBytes 2 0

@@ -2,7 +2,7 @@
 use Prim.Native.Nat.{ℕ}
 use mathlib.Core.List.{List, _++_}
 use lib.ListN.{length}
-use Rattle.msgpack.specs.Writers.{textHead, binaryHead, unsignedInteger, arrayHead, mapHead}
+use Rattle.msgpack_heads.specs.Heads.{textHead, binaryHead, unsignedInteger, arrayHead, mapHead}
 use Rattle.identifier.specs.Identity.{Identity}
 use Rattle.identifier.specs.Composite.{compositeText}
 use Rattle.value.specs.Header.{primaryKey, secondaryKey, lengthKey}

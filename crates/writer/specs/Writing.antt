@@ -6,13 +6,14 @@ use mathlib.Core.Option.{Option, none, some}
 use mathlib.Core.Path.{_≡_}
 use lib.Dec.{leb}
 use lib.ListN.{length}
-use Rattle.endian.specs.Places.{overwritten}
+use Rattle.slices.specs.Overwriting.{overwritten}
+use Rattle.refusals.specs.Limit.{packLimit}
+use Rattle.refusals.specs.Answers.{Answer, refused, result, isResult}
 use Rattle.tlv.specs.Layout.{Record, layout}
-use Rattle.pack.specs.Reading.{packLimit}
 use Rattle.identifier.specs.Ulid.{isUlid}
 use Rattle.identifier.specs.Identity.{Identity, isValid}
 use Rattle.primary.specs.Parts as primary
-use Rattle.records.specs.Record.{blockTag, versionTag, versionDeleteTag, isRead}
+use Rattle.records.specs.Record.{blockTag, versionTag, versionDeleteTag}
 use Rattle.writer.specs.Values.{blockValue, partValue, deletePart}
 use Rattle.writer.specs.declared.Written.{Written}
 use Rattle.writer.specs.declared.Written.the-variants.{Count, Short, Inadmissible}
@@ -48,8 +49,8 @@ itemBytes item = layout (recordOf (tagOf item) (valueOf item))
 
 abbrev pub admitted : Item → Bool
 admitted (block i d) = isValid i
-admitted (version p) = isRead (primary.version p)
-admitted (versionDelete p) = isRead (primary.versionDelete p)
+admitted (version p) = isResult (primary.version p)
+admitted (versionDelete p) = isResult (primary.versionDelete p)
 admitted (deletion i u) = isValid i && isUlid u
 
 -- what an identifier's struct asks for; nothing, where it names none
@@ -59,27 +60,24 @@ ofIdentity item (some i) = some (item i)
 
 -- ---- the answer
 
-pub data Answer : Type 0 where
-  count : ℕ → Answer  -- the bytes of the pack with the record
-  refused : ℕ → Answer  -- with document 01's number
-
-abbrev pub answerOf : Written → Answer
-answerOf (Count n) = count n
+-- the bytes of the pack with the record, or the number of the refusal
+abbrev pub answerOf : Written → Answer ℕ
+answerOf (Count n) = result n
 answerOf Short = refused 19
 answerOf Inadmissible = refused 20
 
 -- of a record of n bytes that is admitted: the limit first, then the room
-unfoldable pub counted : ℕ → ℕ → ℕ → ℕ → Answer
-counted limit room used n = cond (leb (used + n) limit) (cond (leb (used + n) room) (count (used + n)) (refused 19)) (refused 20)
+unfoldable pub counted : ℕ → ℕ → ℕ → ℕ → Answer ℕ
+counted limit room used n = cond (leb (used + n) limit) (cond (leb (used + n) room) (result (used + n)) (refused 19)) (refused 20)
 
-unfoldable pub written : ℕ → ℕ → ℕ → Option Item → Answer
+unfoldable pub written : ℕ → ℕ → ℕ → Option Item → Answer ℕ
 written limit room used none = refused 20
 written limit room used (some item) = cond (admitted item) (counted limit room used (length (itemBytes item))) (refused 20)
 
 -- ---- the buffer: as it was on a refusal; else the record stands directly after the bytes so far, and every other byte is kept
 
-abbrev pub leftBy : Answer → List ℕ → ℕ → List ℕ → List ℕ
-leftBy (count n) buf used bytes = overwritten buf used bytes
+abbrev pub leftBy : Answer ℕ → List ℕ → ℕ → List ℕ → List ℕ
+leftBy (result n) buf used bytes = overwritten buf used bytes
 leftBy (refused n) buf used bytes = buf
 
 -- what a call does with a record that is admitted

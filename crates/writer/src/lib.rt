@@ -7,18 +7,18 @@ ghost use mathlib.Core.Bool.{true};
 ghost use mathlib.Core.List.{_++_};
 ghost use Prim.Native.Nat.{_+_, _≤_, _<_};
 ghost use lib.ListN.{length, take, drop};
+ghost use Rattle.slices.specs.Overwriting.{overwritten};
+ghost use Rattle.refusals.specs.Limit.{packLimit};
 ghost use Rattle.endian.specs.Numbers.{bigBytes};
-ghost use Rattle.endian.specs.Places.{overwritten};
 ghost use Rattle.tlv.specs.Layout.{head, layout};
-ghost use Rattle.pack.specs.Reading.{packLimit};
-ghost use Rattle.msgpack.specs.Writers.{textHead, binaryHead, unsignedInteger, mapHead, nextOf};
+ghost use Rattle.msgpack_heads.specs.Heads.{textHead, binaryHead, unsignedInteger, mapHead, nextOf};
 ghost use Rattle.identifier.specs.Identity.{identity, isValid};
 ghost use Rattle.identifier.specs.Ulid.{isUlid};
 ghost use Rattle.identifier.specs.Composite.{compositeText};
 ghost use Rattle.identifier.specs.Held.{named};
 ghost use Rattle.records.specs.Record.{blockTag, versionDeleteTag};
 ghost use Rattle.writer.specs.Values.{textItem, pair, primaryHeader, secondaryHeader, blockHeader, partHeader, blockPart, blockValue, partValue, identityPairs, deletePart};
-ghost use Rattle.writer.specs.Putting.{Puts, toldPlace, front};
+ghost use Rattle.writer.specs.Putting.{Puts, toldPlace, fieldBytes};
 ghost use Rattle.writer.specs.Writing.{block, version, versionDelete, deletion, recordOf, ofIdentity, answerOf, counted, Stores, written, bufferAfter};
 use identifier::Identifier;
 use primary::DeleteRead;
@@ -98,7 +98,8 @@ fn block_part_size(ulid: &[u8], bucket: &[u8], object: &[u8]) -> usize
 
 fn delete_part_size(ulid: &[u8], bucket: &[u8], object: &[u8], deleteid: &[u8]) -> usize
     requires { ⌜ (isValid (identity (now ulid) (now bucket) (now object)) ≡ true) × (isUlid (now deleteid) ≡ true) ⌝ }
-    ensures { λ r. ⌜ (r ≡ length (deletePart (identity (now (ulid .entry)) (now (bucket .entry)) (now (object .entry))) (now (deleteid .entry)))) × (r ≤ packLimit) ⌝ }
+    ensures { λ r. ⌜ (r ≡ length (deletePart (identity (now (ulid .entry)) (now (bucket .entry)) (now (object .entry))) (now (deleteid .entry))))
+        × (r ≤ packLimit) ⌝ }
 {
     let names = pair_size(&primary::BUCKET, bucket) + pair_size(&primary::OBJECT, object);
     1 + names + pair_size(&primary::ULID, ulid) + pair_size(&primary::DELETE_ID, deleteid)
@@ -123,12 +124,12 @@ fn part_value_size(part: usize) -> usize
 // ---- bytes put at a place; each function returns the place after them
 
 // The place that the writing of a head told. It is there, since the head has room.
-fn place(w: msgpack::Written) -> usize
+fn place(w: msgpack_heads::Written) -> usize
     ensures { λ r. ⌜ r ≡ toldPlace (nextOf w) ⌝ }
 {
     match w {
-        msgpack::Written::Next(n) => n,
-        msgpack::Written::NoRoom => 0,
+        msgpack_heads::Written::Next(n) => n,
+        msgpack_heads::Written::NoRoom => 0,
     }
 }
 
@@ -136,7 +137,7 @@ fn put(out: &mut [u8], at: usize, s: &[u8]) -> usize
     requires { ⌜ at + length (now s) ≤ length (now out) ⌝ }
     ensures { λ r. ⌜ Puts (now (out .entry)) at (now (s .entry)) (now (out .exit)) r ⌝ }
 {
-    let _ = endian::write_bytes(out, at, s);
+    let _ = slices::write_bytes(out, at, s);
     at + s.len()
 }
 
@@ -144,7 +145,7 @@ fn put_text(out: &mut [u8], at: usize, s: &[u8]) -> usize
     requires { ⌜ (length (now s) ≤ packLimit) × (at + length (textItem (now s)) ≤ length (now out)) ⌝ }
     ensures { λ r. ⌜ Puts (now (out .entry)) at (textItem (now (s .entry))) (now (out .exit)) r ⌝ }
 {
-    let start = place(msgpack::write_text_head(out, at, s.len() as u32));
+    let start = place(msgpack_heads::write_text_head(out, at, s.len() as u32));
     put(out, start, s)
 }
 
@@ -157,17 +158,20 @@ fn put_pair(out: &mut [u8], at: usize, key: &[u8], text: &[u8]) -> usize
 }
 
 fn put_composite(out: &mut [u8], at: usize, ulid: &[u8], bucket: &[u8], object: &[u8]) -> usize
-    requires { ⌜ (isValid (identity (now ulid) (now bucket) (now object)) ≡ true) × (at + length (textItem (compositeText (identity (now ulid) (now bucket) (now object)))) ≤ length (now out)) ⌝ }
-    ensures { λ r. ⌜ Puts (now (out .entry)) at (textItem (compositeText (identity (now (ulid .entry)) (now (bucket .entry)) (now (object .entry))))) (now (out .exit)) r ⌝ }
+    requires { ⌜ (isValid (identity (now ulid) (now bucket) (now object)) ≡ true)
+        × (at + length (textItem (compositeText (identity (now ulid) (now bucket) (now object)))) ≤ length (now out)) ⌝ }
+    ensures { λ r. ⌜ Puts (now (out .entry)) at
+        (textItem (compositeText (identity (now (ulid .entry)) (now (bucket .entry)) (now (object .entry))))) (now (out .exit)) r ⌝ }
 {
     let n = 28 + bucket.len() + object.len();
-    let start = place(msgpack::write_text_head(out, at, n as u32));
+    let start = place(msgpack_heads::write_text_head(out, at, n as u32));
     let _ = identifier::write_parts(out, start, ulid, bucket, object);
     start + n
 }
 
 fn put_block_part(out: &mut [u8], at: usize, ulid: &[u8], bucket: &[u8], object: &[u8]) -> usize
-    requires { ⌜ (isValid (identity (now ulid) (now bucket) (now object)) ≡ true) × (at + length (blockPart (identity (now ulid) (now bucket) (now object))) ≤ length (now out)) ⌝ }
+    requires { ⌜ (isValid (identity (now ulid) (now bucket) (now object)) ≡ true)
+        × (at + length (blockPart (identity (now ulid) (now bucket) (now object))) ≤ length (now out)) ⌝ }
     ensures { λ r. ⌜ Puts (now (out .entry)) at (blockPart (identity (now (ulid .entry)) (now (bucket .entry)) (now (object .entry)))) (now (out .exit)) r ⌝ }
 {
     let start = put(out, at, &BLOCK_PART);
@@ -180,7 +184,7 @@ fn put_primary(out: &mut [u8], at: usize, n: usize) -> usize
     ensures { λ r. ⌜ Puts (now (out .entry)) at (primaryHeader n) (now (out .exit)) r ⌝ }
 {
     let head = put(out, at, &PRIMARY);
-    place(msgpack::write_binary_head(out, head, n as u32))
+    place(msgpack_heads::write_binary_head(out, head, n as u32))
 }
 
 // A block's header, up to what stands under its key `s`.
@@ -189,7 +193,7 @@ fn put_secondary(out: &mut [u8], at: usize, l: usize) -> usize
     ensures { λ r. ⌜ Puts (now (out .entry)) at (mapHead 2 ++ secondaryHeader l) (now (out .exit)) r ⌝ }
 {
     let length = put(out, at, &SECONDARY);
-    place(msgpack::write_unsigned(out, length, l as u64))
+    place(msgpack_heads::write_unsigned(out, length, l as u64))
 }
 
 fn put_block_header(out: &mut [u8], at: usize, l: usize, n: usize) -> usize
@@ -218,8 +222,11 @@ fn put_block_value(
     object: &[u8],
     content: &[u8],
 ) -> usize
-    requires { ⌜ (isValid (identity (now ulid) (now bucket) (now object)) ≡ true) × (part ≡ length (blockPart (identity (now ulid) (now bucket) (now object)))) × (part ≤ packLimit) × (at + length (blockValue (identity (now ulid) (now bucket) (now object)) (now content)) ≤ length (now out)) ⌝ }
-    ensures { λ r. ⌜ Puts (now (out .entry)) at (blockValue (identity (now (ulid .entry)) (now (bucket .entry)) (now (object .entry))) (now (content .entry))) (now (out .exit)) r ⌝ }
+    requires { ⌜ (isValid (identity (now ulid) (now bucket) (now object)) ≡ true)
+        × (part ≡ length (blockPart (identity (now ulid) (now bucket) (now object)))) × (part ≤ packLimit)
+        × (at + length (blockValue (identity (now ulid) (now bucket) (now object)) (now content)) ≤ length (now out)) ⌝ }
+    ensures { λ r. ⌜ Puts (now (out .entry)) at
+        (blockValue (identity (now (ulid .entry)) (now (bucket .entry)) (now (object .entry))) (now (content .entry))) (now (out .exit)) r ⌝ }
 {
     let start = put_block_header(out, at, content.len(), part);
     let end = put_block_part(out, start, ulid, bucket, object);
@@ -235,8 +242,10 @@ fn put_part_value(out: &mut [u8], at: usize, part: &[u8]) -> usize
 }
 
 fn put_identity(out: &mut [u8], at: usize, ulid: &[u8], bucket: &[u8], object: &[u8]) -> usize
-    requires { ⌜ (isValid (identity (now ulid) (now bucket) (now object)) ≡ true) × (at + length (identityPairs (identity (now ulid) (now bucket) (now object))) ≤ length (now out)) ⌝ }
-    ensures { λ r. ⌜ Puts (now (out .entry)) at (identityPairs (identity (now (ulid .entry)) (now (bucket .entry)) (now (object .entry)))) (now (out .exit)) r ⌝ }
+    requires { ⌜ (isValid (identity (now ulid) (now bucket) (now object)) ≡ true)
+        × (at + length (identityPairs (identity (now ulid) (now bucket) (now object))) ≤ length (now out)) ⌝ }
+    ensures { λ r. ⌜ Puts (now (out .entry)) at
+        (identityPairs (identity (now (ulid .entry)) (now (bucket .entry)) (now (object .entry)))) (now (out .exit)) r ⌝ }
 {
     let o = put_pair(out, at, &primary::BUCKET, bucket);
     let v = put_pair(out, o, &primary::OBJECT, object);
@@ -251,8 +260,10 @@ fn put_delete_part(
     object: &[u8],
     deleteid: &[u8],
 ) -> usize
-    requires { ⌜ (isValid (identity (now ulid) (now bucket) (now object)) ≡ true) × (isUlid (now deleteid) ≡ true) × (at + length (deletePart (identity (now ulid) (now bucket) (now object)) (now deleteid)) ≤ length (now out)) ⌝ }
-    ensures { λ r. ⌜ Puts (now (out .entry)) at (deletePart (identity (now (ulid .entry)) (now (bucket .entry)) (now (object .entry))) (now (deleteid .entry))) (now (out .exit)) r ⌝ }
+    requires { ⌜ (isValid (identity (now ulid) (now bucket) (now object)) ≡ true) × (isUlid (now deleteid) ≡ true)
+        × (at + length (deletePart (identity (now ulid) (now bucket) (now object)) (now deleteid)) ≤ length (now out)) ⌝ }
+    ensures { λ r. ⌜ Puts (now (out .entry)) at
+        (deletePart (identity (now (ulid .entry)) (now (bucket .entry)) (now (object .entry))) (now (deleteid .entry))) (now (out .exit)) r ⌝ }
 {
     let start = put(out, at, &DELETE_PART);
     let key = put_identity(out, start, ulid, bucket, object);
@@ -269,8 +280,11 @@ fn put_delete_value(
     object: &[u8],
     deleteid: &[u8],
 ) -> usize
-    requires { ⌜ (isValid (identity (now ulid) (now bucket) (now object)) ≡ true) × (isUlid (now deleteid) ≡ true) × (part ≡ length (deletePart (identity (now ulid) (now bucket) (now object)) (now deleteid))) × (part ≤ packLimit) × (at + length (partValue (deletePart (identity (now ulid) (now bucket) (now object)) (now deleteid))) ≤ length (now out)) ⌝ }
-    ensures { λ r. ⌜ Puts (now (out .entry)) at (partValue (deletePart (identity (now (ulid .entry)) (now (bucket .entry)) (now (object .entry))) (now (deleteid .entry)))) (now (out .exit)) r ⌝ }
+    requires { ⌜ (isValid (identity (now ulid) (now bucket) (now object)) ≡ true) × (isUlid (now deleteid) ≡ true)
+        × (part ≡ length (deletePart (identity (now ulid) (now bucket) (now object)) (now deleteid))) × (part ≤ packLimit)
+        × (at + length (partValue (deletePart (identity (now ulid) (now bucket) (now object)) (now deleteid))) ≤ length (now out)) ⌝ }
+    ensures { λ r. ⌜ Puts (now (out .entry)) at
+        (partValue (deletePart (identity (now (ulid .entry)) (now (bucket .entry)) (now (object .entry))) (now (deleteid .entry)))) (now (out .exit)) r ⌝ }
 {
     let start = put_part_header(out, at, part);
     put_delete_part(out, start, ulid, bucket, object, deleteid)
@@ -288,7 +302,7 @@ fn put_number(out: &mut [u8], at: usize, width: usize, n: u64) -> usize
 // Bytes 0 to 29 of a record.
 fn put_fields(out: &mut [u8], at: usize, h: RecordHeader) -> usize
     requires { ⌜ at + 30 ≤ length (now out) ⌝ }
-    ensures { λ r. ⌜ Puts (now (out .entry)) at (front h) (now (out .exit)) r ⌝ }
+    ensures { λ r. ⌜ Puts (now (out .entry)) at (fieldBytes h) (now (out .exit)) r ⌝ }
     ensures { λ r. ⌜ r ≡ at + 30 ⌝ }
 {
     let length = put_number(out, at, 8, RecordHeader::MAGIC);
@@ -343,7 +357,9 @@ fn store_block(
     content: &[u8],
 ) -> Written
     requires { ⌜ isValid (identity (now ulid) (now bucket) (now object)) ≡ true ⌝ }
-    ensures { λ r. ⌜ Stores used (layout (recordOf blockTag (blockValue (identity (now (ulid .entry)) (now (bucket .entry)) (now (object .entry))) (now (content .entry))))) (now (buf .entry)) r (now (buf .exit)) ⌝ }
+    ensures { λ r. ⌜ Stores used (layout
+        (recordOf blockTag (blockValue (identity (now (ulid .entry)) (now (bucket .entry)) (now (object .entry))) (now (content .entry)))))
+        (now (buf .entry)) r (now (buf .exit)) ⌝ }
 {
     if RecordHeader::LIMIT < content.len() {
         return Written::Inadmissible;
@@ -389,7 +405,10 @@ fn store_deletion(
     deleteid: &[u8],
 ) -> Written
     requires { ⌜ (isValid (identity (now ulid) (now bucket) (now object)) ≡ true) × (isUlid (now deleteid) ≡ true) ⌝ }
-    ensures { λ r. ⌜ Stores used (layout (recordOf versionDeleteTag (partValue (deletePart (identity (now (ulid .entry)) (now (bucket .entry)) (now (object .entry))) (now (deleteid .entry)))))) (now (buf .entry)) r (now (buf .exit)) ⌝ }
+    ensures { λ r. ⌜ Stores used (layout
+        (recordOf versionDeleteTag (partValue
+        (deletePart (identity (now (ulid .entry)) (now (bucket .entry)) (now (object .entry))) (now (deleteid .entry))))))
+        (now (buf .entry)) r (now (buf .exit)) ⌝ }
 {
     let part = delete_part_size(ulid, bucket, object, deleteid);
     let value = part_value_size(part);
@@ -447,8 +466,10 @@ pub fn write_delete(buf: &mut [u8], used: usize, part: &[u8]) -> Written
 
 // A version delete, made from the identifier of the version that goes and a delete ULID.
 pub fn write_delete_of(buf: &mut [u8], used: usize, id: Identifier, deleteid: &[u8]) -> Written
-    ensures answer { λ r. ⌜ answerOf r ≡ written packLimit (length (now (buf .entry))) used (ofIdentity (λ i. deletion i (now (deleteid .entry))) (named id)) ⌝ }
-    ensures buffer { λ _. ⌜ now (buf .exit) ≡ bufferAfter packLimit used (ofIdentity (λ i. deletion i (now (deleteid .entry))) (named id)) (now (buf .entry)) ⌝ }
+    ensures answer { λ r. ⌜ answerOf r ≡ written packLimit (length (now (buf .entry))) used
+        (ofIdentity (λ i. deletion i (now (deleteid .entry))) (named id)) ⌝ }
+    ensures buffer { λ _. ⌜ now (buf .exit) ≡ bufferAfter packLimit used
+        (ofIdentity (λ i. deletion i (now (deleteid .entry))) (named id)) (now (buf .entry)) ⌝ }
 {
     if !identifier::is_admitted(id) {
         return Written::Inadmissible;

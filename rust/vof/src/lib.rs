@@ -5,7 +5,7 @@
 //! lent memory as it was, and what lies behind a result keeps its content.
 //!
 //! The build links the archive that the environment variable VOF_LIBRARY names by its absolute path, else
-//! this repository's target/staticlib/libcapi.a, which `rt staticlib capi` writes.
+//! this repository's target/staticlib/libvof.a, which `bin/archive` writes.
 //!
 //! ```
 //! let mut buffer = [0; 256];

@@ -2,7 +2,7 @@
 use mathlib.Core.Option.{some}
 use mathlib.Core.Path.{refl}
 use borrow.Author.Needs.{needs}
-use Rattle.endian.specs.Bytes.{AllBytes}
+use Rattle.slices.specs.Bytes.{AllBytes}
 use Rattle.writer.specs.Writing.{versionDelete}
 use Rattle.demands.proofs.Calls.{count-inside, deletion-holds}
 use Rattle.demands.proofs.delete_then_look_up.Statement.{statement}

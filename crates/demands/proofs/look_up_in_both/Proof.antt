@@ -1,7 +1,7 @@
 -- `demands::look_up_in_both` meets its contract: both answers are the definition's, and order plays no part.
 use borrow.Author.Needs.{needs}
-use Rattle.endian.specs.Bytes.{AllBytes}
-use Rattle.pack.specs.Reading.{packLimit}
+use Rattle.slices.specs.Bytes.{AllBytes}
+use Rattle.refusals.specs.Limit.{packLimit}
 use Rattle.current_version.specs.Bytes.{rearranged-packs-answer-alike}
 use Rattle.demands.proofs.look_up_in_both.Statement.{statement}
 use Rattle.demands.proofs.look_up_in_both.Tie as tie

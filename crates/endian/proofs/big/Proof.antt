@@ -5,7 +5,7 @@ use Prim.Native.Nat.{_+_, _-_, _*_, _^_, _≤_, _<_}
 use lib.ListN.{getD, take, drop}
 use native.Mathlib.Omega.{arith}
 use Rattle.endian.specs.Numbers.{big, little, big-lt}
-use Rattle.endian.proofs.Laws.{big-more, fits}
+use Rattle.endian.proofs.Digits.{big-more, fits}
 use Rattle.endian.proofs.big.Statement.{statement}
 use Rattle.endian.proofs.big.Tie as tie
 

@@ -5,7 +5,7 @@ use Prim.Native.Nat.{_+_, _-_, _*_, _^_, _≤_, _<_}
 use lib.ListN.{getD, take, drop}
 use native.Mathlib.Omega.{arith}
 use Rattle.endian.specs.Numbers.{little, little-lt}
-use Rattle.endian.proofs.Laws.{little-more, shifted, fits}
+use Rattle.endian.proofs.Digits.{little-more, shifted, fits}
 use Rattle.endian.proofs.little.Statement.{statement}
 use Rattle.endian.proofs.little.Tie as tie
 

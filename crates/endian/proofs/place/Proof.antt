@@ -1,16 +1,17 @@
--- `endian::place` meets its contract. The invariant: what is left to place, placed into the buffer as it is now, gives the whole result.
+-- `endian::place` meets its contract. The invariant: what is left to write, written into the buffer as it is now, gives the whole result.
 use borrow.Author.Needs.{needs}
 use mathlib.Core.Path.{_≡_, sym, _∙_}
 use Prim.Native.Nat.{_+_, _-_, _≤_}
 use native.Mathlib.Omega.{arith}
 use lib.ListN.{length, length-set}
-use Rattle.endian.specs.Places.{placed}
-use Rattle.endian.proofs.Laws.{placed-more, placed-none}
+use Rattle.slices.specs.Overwriting.{overwritten}
+use Rattle.endian.specs.Numbers.{bigBytes}
+use Rattle.endian.proofs.Digits.{overwritten-digit, overwritten-none}
 use Rattle.endian.proofs.place.Statement.{statement}
 use Rattle.endian.proofs.place.Tie as tie
 
 abbrev Inv-loop : tie.InvT-loop
-Inv-loop out₀ at width n rest₀ left₀ out rest left = (left ≤ width) × (length out ≡ length out₀) × (placed out at left rest ≡ placed out₀ at width n)
+Inv-loop out₀ at width n rest₀ left₀ out rest left = (left ≤ width) × (length out ≡ length out₀) × (overwritten out at (bigBytes left rest) ≡ overwritten out₀ at (bigBytes width n))
 
 abbrev μ-loop : tie.MeasureT-loop
 μ-loop out₀ at width n rest₀ left₀ out rest left = left
@@ -38,7 +39,7 @@ loop-again c =
     let a = c .before .before .args in
     let v = c .before .loop in
     let e : v .left - 1 + 1 ≡ v .left = omega arith in
-    (omega arith, rw length-set (v .inv .1), rw (placed-more (v .out) (a .at) (v .left - 1) (v .rest) (omega arith), e) (v .inv .2))
+    (omega arith, rw length-set (v .inv .1), rw (overwritten-digit (v .out) (a .at) (v .left - 1) (v .rest) (omega arith), e) (v .inv .2))
 
 same-length : tie.Need-same-length Inv-loop μ-loop
 same-length c = search needs
@@ -47,7 +48,7 @@ returns : tie.Need-returns Inv-loop μ-loop
 returns c =
     let v = c .before .loop in
     let e : v .left ≡ 0 = omega arith in
-    sym (placed-none (v .out) (c .before .before .args .at) (v .rest)) ∙ rw e at (v .inv .2)
+    sym (overwritten-none (v .out) (c .before .before .args .at) (v .rest)) ∙ rw e at (v .inv .2)
 
 pub place-spec : {M : Type 1} → statement M
 place-spec =

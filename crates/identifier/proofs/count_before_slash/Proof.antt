@@ -1,8 +1,8 @@
 -- The first slash stands at the end found, or not before the bytes passed.
 use borrow.Author.Needs.{needs}
-use Rattle.identifier.proofs.Loops.{before-here, before-later}
 use Rattle.identifier.specs.Identity.{slash}
 use Rattle.identifier.specs.Texts.{before, before-length}
+use Rattle.identifier.proofs.Loops.{before-here, before-later}
 use lib.ListN.{length}
 use native.Mathlib.Omega.{arith}
 use mathlib.Core.Logic.{_⊎_, inl, inr, ⊎-elim}

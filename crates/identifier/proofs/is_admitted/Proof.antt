@@ -1,7 +1,7 @@
 -- The lengths are tested, then the parts that they cut off.
 use borrow.Author.Needs.{needs}
-use Rattle.identifier.proofs.Structs.{Arrays, named-within, named-bucket, named-object}
 use Rattle.identifier.specs.Held.{isAdmitted}
+use Rattle.identifier.proofs.Structs.{Arrays, named-within, named-bucket, named-object}
 use lib.Seq.{length-take-le}
 use native.Mathlib.Omega.{arith}
 use mathlib.Core.Path.{sym, ap, _∙_}

@@ -1,8 +1,8 @@
 -- No entry passed is the byte, so it is in the table when it is in the rest.
 use borrow.Author.Needs.{needs}
-use Rattle.identifier.proofs.Loops.{member-here, member-later, member-end}
 use Rattle.identifier.specs.Ulid.{alphabet, isCharacter}
 use Rattle.identifier.specs.Texts.{member}
+use Rattle.identifier.proofs.Loops.{member-here, member-later, member-end}
 use lib.ListN.{drop}
 use native.Mathlib.Omega.{arith}
 use mathlib.Core.Path.{_≡_, refl, sym, _∙_}

@@ -1,8 +1,8 @@
 -- Every byte passed is a character, so the rest decides.
 use borrow.Author.Needs.{needs}
-use Rattle.identifier.proofs.Loops.{all-fails, all-later, all-end}
 use Rattle.identifier.specs.Ulid.{isCharacter, isUlid}
 use Rattle.identifier.specs.Texts.{all}
+use Rattle.identifier.proofs.Loops.{all-fails, all-later, all-end}
 use borrow.Author.Tests.{eq-eqb, ne-eqb, not-true, not-false}
 use lib.ListN.{length, drop}
 use native.Mathlib.Omega.{arith}

@@ -1,7 +1,7 @@
 -- The bytes passed are the same in both, so the order is that of what is left.
 use borrow.Author.Needs.{needs}
-use Rattle.identifier.proofs.Loops.{less-differs, less-later, less-short, less-left}
 use Rattle.identifier.specs.Texts.{less}
+use Rattle.identifier.proofs.Loops.{less-differs, less-later, less-short, less-left}
 use lib.ListN.{length, drop}
 use native.Mathlib.Omega.{arith}
 use mathlib.Core.Path.{_≡_, sym, _∙_}

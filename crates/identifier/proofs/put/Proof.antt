@@ -1,7 +1,7 @@
 -- The bytes lie within, so that they are written.
 use borrow.Author.Needs.{needs}
 use mathlib.Core.Path.{_∙_}
-use Rattle.endian.specs.Places.{written-within}
+use Rattle.slices.specs.Overwriting.{written-within}
 use Rattle.identifier.proofs.put.Statement.{statement}
 use Rattle.identifier.proofs.put.Tie as tie
 

@@ -1,6 +1,6 @@
 -- A split text is held by its parts; a text that does not split is answered by zeros.
 use borrow.Author.Needs.{needs}
-use Rattle.identifier.specs.Texts.{part-all}
+use Rattle.slices.specs.Lists.{part-to-end}
 use Rattle.identifier.specs.Held.{answered}
 use Rattle.identifier.specs.Identity.{sizes}
 use Rattle.identifier.specs.Composite.{slashOf, SplitAt, split-at, split-none}
@@ -51,7 +51,7 @@ part-hold-end-3 c = search needs
 
 hold-requires : tie.Need-hold-requires
 hold-requires c κs = let s = sizes _ (known (c .before .before .before) .valid) in
-    (s .ulid, s .bucketmost, rw part-all (s .objectmost))
+    (s .ulid, s .bucketmost, rw part-to-end (s .objectmost))
 
 enum-told : tie.Need-enum-told
 enum-told c = search needs
@@ -61,7 +61,7 @@ zeros-requires c κs = search needs
 
 returns : tie.Need-returns
 unfolding answered
-returns c = rw (known (c .before .before .before .before) .read, c .hold .ensures, part-all)
+returns c = rw (known (c .before .before .before .before) .read, c .hold .ensures, part-to-end)
 
 returns-2 : tie.Need-returns-2
 unfolding answered

@@ -1,7 +1,7 @@
 -- The lengths are tested, then the parts that they cut off are written.
 use borrow.Author.Needs.{needs}
-use Rattle.identifier.proofs.Structs.{Arrays, named-within, named-bucket, named-object}
 use Rattle.identifier.specs.Writing.{outcome, left}
+use Rattle.identifier.proofs.Structs.{Arrays, named-within, named-bucket, named-object}
 use lib.Seq.{length-take-le}
 use mathlib.Core.Path.{sym}
 use native.Mathlib.Omega.{arith}

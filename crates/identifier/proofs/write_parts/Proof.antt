@@ -2,7 +2,7 @@
 use borrow.Author.Needs.{needs}
 use lib.ListN.{length}
 use mathlib.Core.Option.{some}
-use Rattle.endian.specs.Places.{overwritten}
+use Rattle.slices.specs.Overwriting.{overwritten}
 use mathlib.Core.Bool.{true}
 use Rattle.identifier.specs.Composite.{compositeText, composite-length}
 use Rattle.identifier.specs.Writing.{Outcome, wrote, outcome, left, write-inadmissible, write-short, write-done}

@@ -4,7 +4,7 @@ use borrow.Author.Tests.{le-leb}
 use mathlib.Core.Path.{refl, _∙_}
 use Prim.Native.Nat.{_+_}
 use lib.ListN.{length}
-use Rattle.endian.specs.Places.{writtenBytes}
+use Rattle.slices.specs.Overwriting.{writtenBytes}
 use Rattle.list_pack.proofs.put.Statement.{statement}
 use Rattle.list_pack.proofs.put.Tie as tie
 

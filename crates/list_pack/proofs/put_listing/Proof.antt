@@ -3,7 +3,8 @@ use borrow.Author.Needs.{needs}
 use mathlib.Core.Path.{sym, ap, _∙_}
 use native.Mathlib.Omega.{arith}
 use Prim.Native.Nat.{ℕ}
-use Rattle.pack.specs.Reading.{refused, reading, packLimit}
+use Rattle.refusals.specs.Limit.{packLimit}
+use Rattle.pack.specs.Reading.{refused, reading}
 use Rattle.pack.specs.Scan.{scannedOf}
 use Rattle.list_pack.proofs.Answers.{Filled, filled, refusal, never-short, length-list, listing-put, refusal-put}
 use Rattle.list_pack.proofs.put_listing.Statement.{statement}

@@ -48,12 +48,11 @@ use denote.Triple.Walked.{says, Stays, stay-none-slice, walkOf, goes-none-slice,
 use denote.Exit.{yes}
 use denote.Triple.Clauses.{ensured, lasts}
 use borrow.Struct.Items.{is-same}
+use Rattle.refusals.specs.Limit.{packLimit}
 use Rattle.pack.specs.declared.Entry.{Entry}
 use Rattle.pack.specs.declared.Scanned.{Scanned}
-use Rattle.pack.specs.Reading.{reading, packLimit}
+use Rattle.pack.specs.Reading.{reading}
 use Rattle.pack.specs.Scan.{scannedOf, scanned, listAfter}
-use Rattle.list_pack.specs.declared.Listing.{Listing}
-use Rattle.list_pack.specs.Listing.{noEntries}
 use Rattle.pack.proofs.Entry as entry
 use Rattle.pack.proofs.Entry.Laws as entry-laws
 use Rattle.pack.proofs.Scanned as answer
@@ -62,6 +61,8 @@ use Rattle.pack.proofs.scan as scan
 use Rattle.pack.proofs.scan.Symbol as scan-def
 use Rattle.pack.proofs.scan.Symbol.{name as #pack·scan}
 use Rattle.pack.proofs.scan.Met as scan-thm
+use Rattle.list_pack.specs.declared.Listing.{Listing}
+use Rattle.list_pack.specs.Listing.{noEntries}
 use Rattle.list_pack.proofs.Listing as listing
 use Rattle.list_pack.proofs.Listing.Laws as listing-laws
 use Rattle.list_pack.proofs.no_entries as no-entries

@@ -23,11 +23,11 @@ add-field c = search needs
 field-requires-2 : tie.Need-field-requires-2 Inv-loop μ-loop
 field-requires-2 c κs = search needs
 
-text-requires : tie.Need-text-requires Inv-loop μ-loop
-text-requires c κs = search needs
+part-requires : tie.Need-part-requires Inv-loop μ-loop
+part-requires c κs = search needs
 
-text-requires-2 : tie.Need-text-requires-2 Inv-loop μ-loop
-text-requires-2 c κs = search needs
+part-requires-2 : tie.Need-part-requires-2 Inv-loop μ-loop
+part-requires-2 c κs = search needs
 
 say-line-requires : tie.Need-say-line-requires Inv-loop μ-loop
 say-line-requires c κs = search needs
@@ -57,8 +57,8 @@ names-spec =
     field-requires
     add-field
     field-requires-2
-    text-requires
-    text-requires-2
+    part-requires
+    part-requires-2
     say-line-requires
     add-next
     returns

@@ -9,7 +9,7 @@ use borrow.Fn.PlainCycle.{Measures, is, falls, and}
 use lib.ListN.{length, drop, length-drop}
 use Rattle.msgpack.specs.Items.{headRead, whole, cut, tooDeep, passageOf, beyond, passItems, passItem}
 use Rattle.msgpack.specs.PassingLaws.{too-deep, unused, flat-whole, flat-cut, bounded}
-use Rattle.msgpack.proofs.Passing.{beyond-zero, first, onward, none-left, container, got}
+use Rattle.msgpack.proofs.Passages.{beyond-zero, first, onward, none-left, container, got}
 use Rattle.msgpack.proofs.pass_item.Reads as pass-item
 use Rattle.msgpack.proofs.pass_item.Kinds as pass-item-kinds
 use Rattle.msgpack.proofs.+pass_item+pass_items.Lts-pass_item as pass-item-lts

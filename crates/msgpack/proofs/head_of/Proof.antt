@@ -4,10 +4,10 @@ use Prim.Native.Nat.{_^_, _<_}
 use mathlib.Core.Path.{sym, ap, _∙_}
 use native.Mathlib.Omega.{arith}
 use Rattle.endian.specs.Places.{numberOf}
-use Rattle.msgpack.proofs.Heads.{no-bytes, read-small, format-narrow, head-read, head-unread}
+use Rattle.endian.specs.Numbers.{big}
 use Rattle.msgpack.specs.HeadLaws.{number-read, Narrow}
 use Rattle.msgpack.specs.Formats.{widthOf, amountOf}
-use Rattle.endian.specs.Numbers.{big}
+use Rattle.msgpack.proofs.Heads.{no-bytes, read-small, format-narrow, head-read, head-unread}
 use Rattle.msgpack.proofs.head_of.Statement.{statement}
 use Rattle.msgpack.proofs.head_of.Tie as tie
 

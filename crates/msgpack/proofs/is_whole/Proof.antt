@@ -1,8 +1,8 @@
 -- `msgpack::is_whole` meets its contract: what is compared is the definition's sum, with the head's length taken off both sides.
 use borrow.Author.Needs.{needs}
 use borrow.Author.Tests.{eq-eqb, ne-eqb}
+use Rattle.slices.specs.Logic.{leb-shift}
 use Rattle.msgpack.specs.Readers.{isWhole}
-use Rattle.msgpack.proofs.Heads.{leb-shift}
 use Rattle.msgpack.proofs.is_whole.Statement.{statement}
 use Rattle.msgpack.proofs.is_whole.Tie as tie
 

@@ -5,12 +5,12 @@ use mathlib.Core.List.{List}
 use mathlib.Core.Path.{_≡_, refl, sym, ap, _∙_}
 use native.Mathlib.Omega.{arith}
 use lib.ListN.{length, drop, length-drop}
+use Rattle.slices.specs.Lists.{part-to-end}
 use Rattle.msgpack.specs.Items.{whole, passageOf, passItem, depthAllowed}
 use Rattle.msgpack.specs.Lookup.{missing, placeOf, keyAt, lastWhere}
 use Rattle.msgpack.specs.PassingLaws.{bounded}
-use Rattle.msgpack.proofs.Heads.{part-to-end}
-use Rattle.msgpack.proofs.Passing.{got}
-use Rattle.msgpack.proofs.Finding.{no-pairs, pair-on, key-refused, value-refused}
+use Rattle.msgpack.proofs.Passages.{got}
+use Rattle.msgpack.proofs.LastValues.{no-pairs, pair-on, key-refused, value-refused}
 use Rattle.msgpack.proofs.last_value.Statement.{statement}
 use Rattle.msgpack.proofs.last_value.Tie as tie
 

@@ -3,7 +3,7 @@ use borrow.Author.Needs.{needs}
 use mathlib.Core.Path.{_≡_, sym, ap, _∙_}
 use native.Mathlib.Omega.{arith}
 use lib.ListN.{length, take, drop}
-use Rattle.endian.specs.Bytes.{AllBytes}
+use Rattle.slices.specs.Bytes.{AllBytes}
 use Rattle.endian.specs.Numbers.{big}
 use Rattle.endian.specs.Places.{Within, read-number, read-missing}
 use Rattle.msgpack.specs.Formats.{integerKind}

@@ -5,7 +5,7 @@ use Prim.Native.Nat.{_+_, _-_, _≤_}
 use native.Mathlib.Omega.{arith}
 use lib.ListN.{length, drop}
 use Rattle.tlv.specs.Found.{found, step, foundStep}
-use Rattle.pack.proofs.Going.{Going, starts, ends, stops, room, goes-on, too-long, not-too-long}
+use Rattle.pack.proofs.Passes.{Going, starts, ends, stops, room, goes-on, too-long, not-too-long}
 use Rattle.pack.proofs.check.Statement.{statement}
 use Rattle.pack.proofs.check.Tie as tie
 

@@ -53,9 +53,9 @@ use denote.Exit.{yes}
 use denote.Triple.Clauses.{ensured}
 use Rattle.pack.specs.declared.Entry.{Entry}
 use Rattle.pack.specs.declared.Listed.{Listed}
-use Rattle.pack.specs.Scan.{listedAt}
+use Rattle.pack.specs.Scan.{noEntry, listedAt}
 use Rattle.pack.proofs.Calls.{told}
-use Rattle.pack.proofs.Writes.{noEntry, placeAfter, writtenTo, length-written, written-is}
+use Rattle.pack.proofs.Writes.{placeAfter, writtenTo, length-written, written-is}
 use Rattle.pack.proofs.Entry as entry
 use Rattle.pack.proofs.Entry.Laws as entry-laws
 use Rattle.pack.proofs.Listed as listed

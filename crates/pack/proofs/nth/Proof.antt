@@ -45,7 +45,8 @@ use denote.Triple.Table.{entered, cited}
 use denote.Triple.Walked.{says, Stays, stay-none, stay-none-slice, walkOf, goes-none, goes-none-slice, Walks, ends-at, walked, walk-meets}
 use denote.Exit.{yes}
 use denote.Triple.Clauses.{ensured, lasts}
-use Rattle.pack.specs.Reading.{reading, packLimit}
+use Rattle.refusals.specs.Limit.{packLimit}
+use Rattle.pack.specs.Reading.{reading}
 use Rattle.pack.specs.Walk.{yieldOf, turnAt, nthYield, placeFrom, placeOf, walk-yields}
 use Rattle.pack.specs.declared.Walker.{Walker}
 use Rattle.pack.specs.declared.Walked.{Walked}

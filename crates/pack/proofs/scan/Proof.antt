@@ -37,10 +37,11 @@ use denote.Triple.Table.{entered, cited}
 use denote.Triple.Walked.{says, Stays, stay-none-slice, gave-slice, walkOf, goes-none-slice, goes-gave-slice, Walks, ends-at, walked, walk-meets}
 use denote.Exit.{yes}
 use denote.Triple.Clauses.{ensured, lasts}
+use Rattle.refusals.specs.Limit.{packLimit}
 use Rattle.pack.specs.declared.Entry.{Entry}
 use Rattle.pack.specs.declared.Checked.{Checked}
 use Rattle.pack.specs.declared.Scanned.{Scanned}
-use Rattle.pack.specs.Reading.{reading, packLimit, Outcome, outcome, outcomeOf}
+use Rattle.pack.specs.Reading.{reading, Outcome, outcome, outcomeOf}
 use Rattle.pack.specs.Scan.{scannedOf, fitted, scanned, written, firstEntries, listAfter}
 use Rattle.pack.proofs.Calls.{told}
 use Rattle.pack.proofs.Writes.{scan-writes}

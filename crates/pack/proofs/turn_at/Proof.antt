@@ -4,9 +4,9 @@ use mathlib.Core.Path.{_≡_, sym, ap, _∙_}
 use Prim.Native.Nat.{_+_, _≤_}
 use native.Mathlib.Omega.{arith}
 use lib.ListN.{length, drop, length-drop}
+use Rattle.refusals.specs.Limit.{packLimit}
 use Rattle.tlv.specs.Found.{end, found, fault, step, foundStep, numberOf}
 use Rattle.tlv.specs.Stands.{step-stands}
-use Rattle.pack.specs.Reading.{packLimit}
 use Rattle.pack.specs.Walk.{turn-too-long, turn-found}
 use Rattle.pack.proofs.turn_at.Statement.{statement}
 use Rattle.pack.proofs.turn_at.Tie as tie

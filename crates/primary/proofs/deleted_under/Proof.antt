@@ -1,9 +1,9 @@
 -- `primary::deleted_under` meets its contract: the last `d`, or false where there is none.
 use borrow.Author.Needs.{needs}
 use mathlib.Core.Path.{sym, ap, _∙_}
+use Rattle.slices.specs.Lists.{part-to-end}
 use Rattle.msgpack.specs.Lookup.{placeOf, found, missing, broken}
 use Rattle.msgpack.specs.Readers.{readBoolean}
-use Rattle.identifier.specs.Texts.{part-all}
 use Rattle.primary.specs.Parts.{deletedKey}
 use Rattle.primary.proofs.Readings.{value-place, deleted-is}
 use Rattle.primary.proofs.deleted_under.Statement.{statement}
@@ -38,7 +38,7 @@ enum-told-2 c = search needs
 
 returns : tie.Need-returns
 returns c = let at = c .before .before .before .at .given in
-    c .read-boolean .ensures ∙ ap readBoolean (part-all (at .0 .0) (c .before .before .before .before .before .before .before .before .args .part .now)) ∙ deleted-is _ (found (at .0 .0)) (sym (ap placeOf (at .1)) ∙ c .before .before .before .before .before .map-value .ensures)
+    c .read-boolean .ensures ∙ ap readBoolean (part-to-end (at .0 .0) (c .before .before .before .before .before .before .before .before .args .part .now)) ∙ deleted-is _ (found (at .0 .0)) (sym (ap placeOf (at .1)) ∙ c .before .before .before .before .before .map-value .ensures)
 
 returns-2 : tie.Need-returns-2
 returns-2 c = deleted-is _ missing (sym (ap placeOf (c .enum-told .given .1)) ∙ c .before .before .map-value .ensures)

@@ -4,8 +4,9 @@ use mathlib.Core.Bool.{true, false}
 use mathlib.Core.Option.{none, some}
 use mathlib.Core.Path.{_≡_, refl, sym, ap, _∙_}
 use borrow.Author.Tests.{not-true, not-false}
+use Rattle.slices.specs.Places.{partAt, Inside}
 use Rattle.primary.specs.Parts.{versionDelete, fills, deleteIdKey, textUnder, textsUnder}
-use Rattle.primary.specs.Answers.{textOf, textsOf, textIn, textsIn, Inside, AllInside}
+use Rattle.primary.specs.Answers.{textOf, textsOf, textsIn, AllInside}
 use Rattle.primary.proofs.Readings.{delete-inside, no-delete, cut, delete-is, delete-tested}
 use Rattle.primary.proofs.read_delete.Statement.{statement}
 use Rattle.primary.proofs.read_delete.Tie as tie
@@ -58,14 +59,14 @@ returns-3 c =
     (delete-is _ (whole (t .before .before .before .before)) _ none (texts t) (sym (ap (textOf (c .before .before .before .before .before .before .before .before .before .before .before .args .part .now)) (c .enum-told2 .given .1)) ∙ c .before .before .text-under .ensures .0), no-delete _ _)
 
 -- the delete identifier, and where it stands
-delete-text : (c : tie.After-known-told2) → some (textIn (c .before .before .before .before .before .before .before .before .before .before .before .before .args .part .now) (c .before .id .given .0 .0)) ≡ textUnder deleteIdKey (c .before .before .before .before .before .before .before .before .before .before .before .before .args .part .now)
+delete-text : (c : tie.After-known-told2) → some (partAt (c .before .before .before .before .before .before .before .before .before .before .before .before .args .part .now) (c .before .id .given .0 .0)) ≡ textUnder deleteIdKey (c .before .before .before .before .before .before .before .before .before .before .before .before .args .part .now)
 delete-text c = sym (ap (textOf (c .before .before .before .before .before .before .before .before .before .before .before .before .args .part .now)) (c .before .id .given .1)) ∙ c .before .before .before .text-under .ensures .0
 
 delete-within : (c : tie.After-known-told2) → Inside (c .before .before .before .before .before .before .before .before .before .before .before .before .args .part .now) (c .before .id .given .0 .0)
 delete-within c = c .before .before .before .text-under .ensures .1 .text _ (c .before .id .given .1)
 
 is-valid-requires : tie.Need-is-valid-requires
-is-valid-requires c κs = texts-within (c .before .before .before .before .before)
+is-valid-requires c κs = search needs
 
 returns-4 : tie.Need-returns-4
 returns-4 c =
@@ -74,7 +75,7 @@ returns-4 c =
     (delete-tested _ (whole (t .before .before .before .before)) _ _ false _ (texts t) (delete-text d) (sym (not-true _ (c .if2 .taken)) ∙ c .before .is-valid .ensures) refl, no-delete _ _)
 
 is-ulid-requires : tie.Need-is-ulid-requires
-is-ulid-requires c κs = delete-within (c .before .before)
+is-ulid-requires c κs = search needs
 
 returns-5 : tie.Need-returns-5
 returns-5 c =

@@ -60,7 +60,7 @@ flag : (c : tie.After-known-told2) → some (c .before .deleted .given .0 .0) �
 flag c = sym (ap booleanOf (c .before .deleted .given .1)) ∙ c .before .before .before .deleted-under .ensures
 
 is-valid-requires : tie.Need-is-valid-requires
-is-valid-requires c κs = texts-within (c .before .before .before .before)
+is-valid-requires c κs = search needs
 
 returns-4 : tie.Need-returns-4
 returns-4 c =

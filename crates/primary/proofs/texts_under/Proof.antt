@@ -3,8 +3,9 @@ use borrow.Author.Needs.{needs}
 use mathlib.Core.Option.{none, some}
 use mathlib.Core.Path.{_≡_, refl, sym, ap, _∙_}
 use lib.ListN.{drop}
+use Rattle.slices.specs.Places.{partAt, Inside}
 use Rattle.primary.specs.Parts.{ulidKey, bucketKey, objectKey, textUnder}
-use Rattle.primary.specs.Answers.{textOf, textIn, Inside}
+use Rattle.primary.specs.Answers.{textOf}
 use Rattle.primary.proofs.Places.{texts-inside, no-texts}
 use Rattle.primary.proofs.Readings.{texts-are}
 use Rattle.primary.proofs.texts_under.Statement.{statement}
@@ -26,7 +27,7 @@ returns : tie.Need-returns
 returns c = (texts-are _ none _ _ (sym (ap (textOf (c .before .before .before .before .before .args .part .now)) (c .enum-told .given .1)) ∙ c .before .before .text-under .ensures .0) refl refl, no-texts _)
 
 -- the text `v`, and where it stands
-ulid : (c : tie.After-known-told) → some (textIn (c .before .before .before .before .before .before .args .part .now) (c .before .ulid .given .0 .0)) ≡ textUnder ulidKey (drop (c .before .before .before .before .before .before .args .at) (c .before .before .before .before .before .before .args .part .now))
+ulid : (c : tie.After-known-told) → some (partAt (c .before .before .before .before .before .before .args .part .now) (c .before .ulid .given .0 .0)) ≡ textUnder ulidKey (drop (c .before .before .before .before .before .before .args .at) (c .before .before .before .before .before .before .args .part .now))
 ulid c = sym (ap (textOf (c .before .before .before .before .before .before .args .part .now)) (c .before .ulid .given .1)) ∙ c .before .before .before .text-under .ensures .0
 
 ulid-within : (c : tie.After-known-told) → Inside (c .before .before .before .before .before .before .args .part .now) (c .before .ulid .given .0 .0)
@@ -48,7 +49,7 @@ returns-2 : tie.Need-returns-2
 returns-2 c = (texts-are _ _ none _ (ulid (c .before .before .before .before)) (sym (ap (textOf (c .before .before .before .before .before .before .before .before .before .before .args .part .now)) (c .enum-told2 .given .1)) ∙ c .before .before .text-under2 .ensures .0) refl, no-texts _)
 
 -- the text `b`
-bucket : (c : tie.After-known-told2) → some (textIn (c .before .before .before .before .before .before .before .before .before .before .before .args .part .now) (c .before .bucket .given .0 .0)) ≡ textUnder bucketKey (drop (c .before .before .before .before .before .before .before .before .before .before .before .args .at) (c .before .before .before .before .before .before .before .before .before .before .before .args .part .now))
+bucket : (c : tie.After-known-told2) → some (partAt (c .before .before .before .before .before .before .before .before .before .before .before .args .part .now) (c .before .bucket .given .0 .0)) ≡ textUnder bucketKey (drop (c .before .before .before .before .before .before .before .before .before .before .before .args .at) (c .before .before .before .before .before .before .before .before .before .before .before .args .part .now))
 bucket c = sym (ap (textOf (c .before .before .before .before .before .before .before .before .before .before .before .args .part .now)) (c .before .bucket .given .1)) ∙ c .before .before .before .text-under2 .ensures .0
 
 bucket-within : (c : tie.After-known-told2) → Inside (c .before .before .before .before .before .before .before .before .before .before .before .args .part .now) (c .before .bucket .given .0 .0)
@@ -72,7 +73,7 @@ returns-3 c =
     (texts-are _ _ _ none (ulid (b .before .before .before .before .before)) (bucket b) (sym (ap (textOf (c .before .before .before .before .before .before .before .before .before .before .before .before .before .before .before .args .part .now)) (c .enum-told3 .given .1)) ∙ c .before .before .text-under3 .ensures .0), no-texts _)
 
 -- the text `o`
-object : (c : tie.After-known-told3) → some (textIn (c .before .before .before .before .before .before .before .before .before .before .before .before .before .before .before .before .args .part .now) (c .before .object .given .0 .0)) ≡ textUnder objectKey (drop (c .before .before .before .before .before .before .before .before .before .before .before .before .before .before .before .before .args .at) (c .before .before .before .before .before .before .before .before .before .before .before .before .before .before .before .before .args .part .now))
+object : (c : tie.After-known-told3) → some (partAt (c .before .before .before .before .before .before .before .before .before .before .before .before .before .before .before .before .args .part .now) (c .before .object .given .0 .0)) ≡ textUnder objectKey (drop (c .before .before .before .before .before .before .before .before .before .before .before .before .before .before .before .before .args .at) (c .before .before .before .before .before .before .before .before .before .before .before .before .before .before .before .before .args .part .now))
 object c = sym (ap (textOf (c .before .before .before .before .before .before .before .before .before .before .before .before .before .before .before .before .args .part .now)) (c .before .object .given .1)) ∙ c .before .before .before .text-under3 .ensures .0
 
 object-within : (c : tie.After-known-told3) → Inside (c .before .before .before .before .before .before .before .before .before .before .before .before .before .before .before .before .args .part .now) (c .before .object .given .0 .0)

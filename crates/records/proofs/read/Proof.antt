@@ -2,8 +2,9 @@
 use borrow.Author.Needs.{needs}
 use mathlib.Core.Path.{_≡_, sym, ap, _∙_}
 use native.Mathlib.Omega.{arith}
-use Rattle.pack.specs.Reading.{packLimit}
-use Rattle.value.specs.Reading.{told, reading, answerOf}
+use Rattle.refusals.specs.Limit.{packLimit}
+use Rattle.refusals.specs.Answers.{result}
+use Rattle.value.specs.Reading.{reading, answerOf}
 use Rattle.value.specs.ReadingLaws.{parts-inside}
 use Rattle.records.specs.Record.{readRecord}
 use Rattle.records.proofs.Places.{refused-inside}
@@ -16,7 +17,7 @@ read-requires c κs = search needs
 enum-known-t : tie.Need-enum-known-t
 enum-known-t c = search needs
 
-told-is : (c : tie.After-known-told) → reading packLimit (c .before .before .before .before .before .args .value .now) ≡ told (c .before .t .given .0 .0)
+told-is : (c : tie.After-known-told) → reading packLimit (c .before .before .before .before .before .args .value .now) ≡ result (c .before .t .given .0 .0)
 told-is c = sym (c .before .before .before .read .ensures) ∙ ap answerOf (c .before .t .given .1)
 
 by-told-requires : tie.Need-by-told-requires

@@ -4,9 +4,9 @@ use mathlib.Core.Path.{_≡_, sym, ap, _∙_}
 use Prim.Native.Nat.{_+_, _≤_}
 use native.Mathlib.Omega.{arith}
 use lib.ListN.{length, drop, length-drop}
+use Rattle.refusals.specs.Limit.{packLimit}
 use Rattle.tlv.specs.Found.{end, found, fault, step, foundStep, numberOf}
 use Rattle.tlv.specs.Stands.{step-stands}
-use Rattle.pack.specs.Reading.{packLimit}
 use Rattle.records.proofs.Places.{no-outside, no-too-long, no-fault}
 use Rattle.records.proofs.Readings.{outside, too-long, stepped, behind-header}
 use Rattle.records.proofs.read_at.Statement.{statement}

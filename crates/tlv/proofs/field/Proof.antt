@@ -6,7 +6,7 @@ use Prim.Native.Nat.{ℕ, _+_, _≤_, _<_, _^_}
 use native.Mathlib.Omega.{arith}
 use lib.ListN.{length, take, drop, length-drop}
 use lib.Seq.{length-take-le}
-use Rattle.endian.specs.Bytes.{AllBytes, take-bytes, drop-bytes}
+use Rattle.slices.specs.Bytes.{AllBytes, take-bytes, drop-bytes}
 use Rattle.endian.specs.Numbers.{big, big-lt}
 use Rattle.endian.specs.Places.{read-number, read-missing}
 use Rattle.tlv.specs.Layout.{field}

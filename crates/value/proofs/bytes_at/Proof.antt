@@ -4,10 +4,10 @@ use mathlib.Core.Path.{_≡_, sym, ap, _∙_}
 use mathlib.Core.Option.{some}
 use native.Mathlib.Omega.{arith}
 use lib.ListN.{drop, length-drop}
+use Rattle.slices.specs.Lists.{part-to-end}
 use Rattle.msgpack.specs.Readers.{part, partOf, readBinary}
 use Rattle.msgpack.specs.Formats.{binaryKind}
 use Rattle.msgpack.specs.ReaderLaws.{part-inside}
-use Rattle.value.proofs.Lookups.{part-to-end}
 use Rattle.value.proofs.bytes_at.Statement.{statement}
 use Rattle.value.proofs.bytes_at.Tie as tie
 

@@ -4,7 +4,7 @@ use mathlib.Core.Path.{_≡_, sym, ap, _∙_}
 use mathlib.Core.Option.{some}
 use borrow.Author.Tests.{eq-eqb, ne-eqb}
 use native.Mathlib.Omega.{arith}
-use Rattle.pack.specs.Reading.{packLimit}
+use Rattle.refusals.specs.Limit.{packLimit}
 use Rattle.value.specs.Header.{header, toldOf}
 use lib.ListN.{take, length}
 use lib.Seq.{length-take-le}

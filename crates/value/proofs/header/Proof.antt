@@ -3,8 +3,9 @@ use borrow.Author.Needs.{needs}
 use mathlib.Core.Path.{_≡_, sym, ap, _∙_}
 use mathlib.Core.Option.{some}
 use native.Mathlib.Omega.{arith}
+use Rattle.slices.specs.Lists.{part-to-end}
 use Rattle.value.specs.Header.{alone, header, toldOf}
-use Rattle.value.proofs.Lookups.{part-to-end, found-inside, under-found, under-missing, under-broken}
+use Rattle.value.proofs.Lookups.{found-inside, under-found, under-missing, under-broken}
 use Rattle.value.proofs.header.Statement.{statement}
 use Rattle.value.proofs.header.Tie as tie
 

@@ -2,8 +2,9 @@
 use borrow.Author.Needs.{needs}
 use mathlib.Core.Path.{sym, _∙_}
 use native.Mathlib.Omega.{arith}
+use Rattle.slices.specs.Lists.{part-to-end}
 use Rattle.value.specs.Fields.{naturalUnder}
-use Rattle.value.proofs.Lookups.{part-to-end, found-inside, under-found, under-missing, under-broken}
+use Rattle.value.proofs.Lookups.{found-inside, under-found, under-missing, under-broken}
 use Rattle.value.proofs.natural_under.Statement.{statement}
 use Rattle.value.proofs.natural_under.Tie as tie
 

@@ -1,23 +1,13 @@
 -- `value::part_of` meets its contract.
 use borrow.Author.Needs.{needs}
-use native.Mathlib.Nat.{add-sub-cancel-left}
 use Rattle.value.proofs.part_of.Statement.{statement}
 use Rattle.value.proofs.part_of.Tie as tie
 
-add-end : tie.Need-add-end
-add-end c = search needs
-
-sub-result : tie.Need-sub-result
-sub-result c = search needs
-
-part-result-start : tie.Need-part-result-start
-part-result-start c = search needs
-
-part-result-end : tie.Need-part-result-end
-part-result-end c = search needs
+part-requires : tie.Need-part-requires
+part-requires c κs = search needs
 
 returns : tie.Need-returns
-returns c = record { inside = c .before .before .pre; content = rw add-sub-cancel-left }
+returns c = record { inside = c .before .before .pre; content = c .part .ensures }
 
 pub part-of-spec : {M : Type 1} → statement M
-part-of-spec = tie.close (tie.spec add-end sub-result part-result-start part-result-end returns)
+part-of-spec = tie.close (tie.spec part-requires returns)

@@ -2,16 +2,17 @@
 use borrow.Author.Needs.{needs}
 use mathlib.Core.Path.{_≡_, sym, ap, _∙_}
 use native.Mathlib.Omega.{arith}
-use Rattle.pack.specs.Reading.{packLimit}
-use Rattle.value.specs.Reading.{told, reading, answerOf}
-use Rattle.value.specs.ReadingLaws.{Inside, parts-inside}
+use Rattle.refusals.specs.Limit.{packLimit}
+use Rattle.refusals.specs.Answers.{result}
+use Rattle.value.specs.Reading.{reading, answerOf}
+use Rattle.value.specs.ReadingLaws.{PartsInside, parts-inside}
 use Rattle.value.proofs.primary.Statement.{statement}
 use Rattle.value.proofs.primary.Tie as tie
 
-is-told : (c : tie.After-known-told) → reading packLimit (c .before .before .before .before .before .args .value .now) ≡ told (c .before .t .given .0 .0)
+is-told : (c : tie.After-known-told) → reading packLimit (c .before .before .before .before .before .args .value .now) ≡ result (c .before .t .given .0 .0)
 is-told c = sym (c .before .before .before .read .ensures) ∙ ap answerOf (c .before .t .given .1)
 
-inside : (c : tie.After-known-told) → Inside (c .before .before .before .before .before .args .value .now) (c .before .t .given .0 .0)
+inside : (c : tie.After-known-told) → PartsInside (c .before .before .before .before .before .args .value .now) (c .before .t .given .0 .0)
 inside c = parts-inside packLimit _ _ (is-told c)
 
 read-requires : tie.Need-read-requires

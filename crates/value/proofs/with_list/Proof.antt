@@ -4,11 +4,11 @@ use mathlib.Core.Path.{_≡_, sym, ap, _∙_}
 use mathlib.Core.Option.{some}
 use borrow.Author.Tests.{eq-eqb, ne-eqb}
 use native.Mathlib.Omega.{arith}
+use Rattle.slices.specs.Lists.{part-to-end}
 use Rattle.msgpack.specs.Formats.{arrayKind}
 use Rattle.msgpack.specs.Readers.{counted, readArray, countedOf}
+use Rattle.msgpack.specs.ReaderLaws.{head-inside}
 use Rattle.value.specs.Header.{withList}
-use Rattle.value.proofs.Lookups.{part-to-end}
-use Rattle.value.proofs.Counts.{counted-inside}
 use Rattle.value.proofs.with_list.Statement.{statement}
 use Rattle.value.proofs.with_list.Tie as tie
 
@@ -26,10 +26,10 @@ unfolding withList
 returns c = rw (items-read (c .before), eq-eqb _ 0 (c .if1 .taken))
 
 sub-with-map : tie.Need-sub-with-map
-sub-with-map c = omega (arith, counted-inside arrayKind _ _ (items-read (c .before .before)))
+sub-with-map c = omega (arith, head-inside arrayKind _ _ (items-read (c .before .before)))
 
 part-with-map-start : tie.Need-part-with-map-start
-part-with-map-start c = omega (arith, counted-inside arrayKind _ _ (items-read (c .before .before)))
+part-with-map-start c = omega (arith, head-inside arrayKind _ _ (items-read (c .before .before)))
 
 part-with-map-end : tie.Need-part-with-map-end
 part-with-map-end c = search needs

@@ -4,7 +4,7 @@ use mathlib.Core.Path.{_≡_, sym, ap, _∙_}
 use mathlib.Core.Option.{none, some}
 use Rattle.endian.specs.Places.{numberOf}
 use borrow.Author.Tests.{le-leb, lt-leb}
-use Rattle.pack.specs.Reading.{packLimit}
+use Rattle.refusals.specs.Limit.{packLimit}
 use Rattle.value.specs.Fields.{naturalUnder}
 use Rattle.value.specs.Header.{lengthKey, compressionKey, withMap}
 use Rattle.value.proofs.with_map.Statement.{statement}
@@ -13,7 +13,7 @@ use Rattle.value.proofs.with_map.Tie as tie
 length-read : (c : tie.After-known-told) → naturalUnder lengthKey (c .before .before .before .before .before .before .before .before .args .map .now) none ≡ some (c .before .l .given .0 .0)
 length-read c = sym (c .before .before .before .natural-under .ensures) ∙ ap numberOf (c .before .l .given .1)
 
-compression-read : (c : tie.After-known-told2) → naturalUnder compressionKey (c .before .before .before .before .before .before .before .before .before .before .before .before .before .before .args .map .now) (some (c .before .before .before .before .before .before .before .before .before .before .before .before .before .before .args .t .secondary .compression)) ≡ some (c .before .compression .given .0 .0)
+compression-read : (c : tie.After-known-told2) → naturalUnder compressionKey (c .before .before .before .before .before .before .before .before .before .before .before .before .before .before .args .map .now) (some (c .before .before .before .before .before .before .before .before .before .before .before .before .before .before .args .t .primary .compression)) ≡ some (c .before .compression .given .0 .0)
 compression-read c = sym (c .before .before .before .natural-under2 .ensures) ∙ ap numberOf (c .before .compression .given .1)
 
 slice-aggregate-natural-under : tie.Need-slice-aggregate-natural-under

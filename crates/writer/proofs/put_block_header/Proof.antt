@@ -2,7 +2,7 @@
 use mathlib.Core.List.{_++_}
 use mathlib.Core.Path.{refl}
 use borrow.Author.Needs.{needs}
-use Rattle.msgpack.specs.Writers.{mapHead}
+use Rattle.msgpack_heads.specs.Heads.{mapHead}
 use Rattle.writer.specs.Values.{secondaryHeader, primaryHeader, blockHeader}
 use Rattle.writer.proofs.Chains.{first-fits, next-fits, puts-both}
 use Rattle.writer.proofs.put_block_header.Statement.{statement}

@@ -4,7 +4,7 @@ use native.Mathlib.Omega.{arith}
 use borrow.Author.Needs.{needs}
 use lib.ListN.{length-append}
 use Rattle.endian.specs.Numbers.{length-bigBytes}
-use Rattle.writer.specs.Putting.{front}
+use Rattle.writer.specs.Putting.{fieldBytes}
 use Rattle.writer.proofs.Chains.{puts-both}
 use Rattle.writer.proofs.put_fields.Statement.{statement}
 use Rattle.writer.proofs.put_fields.Tie as tie
@@ -37,7 +37,7 @@ same-length : tie.Need-same-length
 same-length c = search needs
 
 returns : tie.Need-returns
-unfolding front
+unfolding fieldBytes
 returns c =
     let at-put-number6 = c .before .before .before .before .before .before in
     let at-put-number5 = at-put-number6 .before .before .before .before in

@@ -2,7 +2,7 @@
 use mathlib.Core.Path.{refl}
 use borrow.Author.Needs.{needs}
 use lib.ListN.{length}
-use Rattle.msgpack.specs.Writers.{textHead}
+use Rattle.msgpack_heads.specs.Heads.{textHead}
 use Rattle.writer.specs.Putting.{Puts}
 use Rattle.writer.specs.Values.{textItem}
 use Rattle.writer.proofs.Chains.{first-fits, next-fits, puts-both, head-put}

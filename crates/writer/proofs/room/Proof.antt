@@ -2,7 +2,7 @@
 use mathlib.Core.Path.{refl}
 use native.Mathlib.Omega.{arith}
 use borrow.Author.Needs.{needs}
-use Rattle.writer.proofs.Storing.{above-limit, no-room, has-room}
+use Rattle.writer.proofs.Stores.{above-limit, no-room, has-room}
 use Rattle.writer.proofs.room.Statement.{statement}
 use Rattle.writer.proofs.room.Tie as tie
 

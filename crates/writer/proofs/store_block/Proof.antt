@@ -4,12 +4,12 @@ use native.Mathlib.Omega.{arith}
 use borrow.Author.Needs.{needs}
 use lib.ListN.{length}
 use Rattle.identifier.specs.Identity.{Identity, identity}
+use Rattle.records.specs.Record.{blockTag}
 use Rattle.writer.specs.Limits.{content-within, too-long}
 use Rattle.writer.specs.Values.{blockValue}
-use Rattle.records.specs.Record.{blockTag}
 use Rattle.writer.specs.Writing.{block}
 use Rattle.writer.specs.declared.Written.the-variants.{Short, Inadmissible}
-use Rattle.writer.proofs.Storing.{Tested, stores-nothing, fits, value-fits, stores-record}
+use Rattle.writer.proofs.Stores.{Tested, stores-nothing, fits, value-fits, stores-record}
 use Rattle.writer.proofs.Fixed.{block-value-size}
 use Rattle.writer.proofs.store_block.Statement.{statement}
 use Rattle.writer.proofs.store_block.Tie as tie

@@ -3,10 +3,10 @@ use mathlib.Core.Path.{refl}
 use native.Mathlib.Omega.{arith}
 use borrow.Author.Needs.{needs}
 use Rattle.identifier.specs.Identity.{Identity, identity}
-use Rattle.writer.specs.Values.{partValue, deletePart}
 use Rattle.records.specs.Record.{versionDeleteTag}
+use Rattle.writer.specs.Values.{partValue, deletePart}
 use Rattle.writer.specs.declared.Written.the-variants.{Short, Inadmissible}
-use Rattle.writer.proofs.Storing.{Tested, stores-nothing, fits, value-fits, stores-record}
+use Rattle.writer.proofs.Stores.{Tested, stores-nothing, fits, value-fits, stores-record}
 use Rattle.writer.proofs.Fixed.{part-value-size}
 use Rattle.writer.proofs.store_deletion.Statement.{statement}
 use Rattle.writer.proofs.store_deletion.Tie as tie

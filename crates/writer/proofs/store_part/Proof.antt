@@ -7,7 +7,7 @@ use Rattle.writer.specs.Limits.{content-within, too-long}
 use Rattle.writer.specs.Values.{partValue}
 use Rattle.writer.specs.Writing.{version}
 use Rattle.writer.specs.declared.Written.the-variants.{Short, Inadmissible}
-use Rattle.writer.proofs.Storing.{Tested, stores-nothing, fits, value-fits, stores-record}
+use Rattle.writer.proofs.Stores.{Tested, stores-nothing, fits, value-fits, stores-record}
 use Rattle.writer.proofs.Fixed.{part-value-size}
 use Rattle.writer.proofs.store_part.Statement.{statement}
 use Rattle.writer.proofs.store_part.Tie as tie

@@ -45,7 +45,7 @@ use denote.Triple.Spec.{Meets, tripleOf}
 use denote.Triple.Table.{entered, cited}
 use denote.Triple.Walked.{says, Stays, stay-ref, walkOf, goes-ref, Walks, ends-at, walked, walk-meets}
 use denote.Triple.Clauses.{ensured, lasts}
-use Rattle.pack.specs.Reading.{packLimit}
+use Rattle.refusals.specs.Limit.{packLimit}
 use Rattle.pack.specs.Walk.{Call, callOf, turnAt}
 use Rattle.pack.specs.declared.Walker.{Walker}
 use Rattle.pack.specs.declared.Turn.{Turn}

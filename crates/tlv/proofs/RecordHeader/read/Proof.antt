@@ -9,9 +9,10 @@ use Prim.Native.Nat.{ℕ, _%_}
 use lib.ListN.{length, take}
 use Rattle.xxh64.specs.Xxh64.{xxh64}
 use lib.Seq.{length-take-le}
+use Rattle.refusals.specs.Sheet.{lowest}
 use Rattle.tlv.specs.Layout.{magic, field}
+use Rattle.tlv.specs.Found.{header, headerRows, fieldsOf}
 use Rattle.tlv.proofs.Rows.{agrees, differs}
-use Rattle.tlv.specs.Found.{header, headerRows, lowest, fieldsOf}
 use Rattle.tlv.proofs.RecordHeader.read.Statement.{statement}
 use Rattle.tlv.proofs.RecordHeader.read.Tie as tie
 

@@ -1,8 +1,0 @@
-mod Bounds
-mod Filling
-mod Scanning
-mod Telling
-mod Looking
-mod Writes
-mod Standing
-mod Recording

@@ -1,0 +1,63 @@
+// For C, Rust and Python: the current version of an object.
+ghost use mathlib.Core.Path.{_≡_};
+ghost use mathlib.Core.Bool.{cond};
+ghost use lib.ListN.{length};
+ghost use Rattle.slices.specs.Overwriting.{overwritten};
+ghost use Rattle.refusals.specs.Limit.{packLimit};
+ghost use Rattle.current_version.specs.Current.{lookup};
+ghost use Rattle.words.specs.Words.{answer};
+ghost use Rattle.capi_lookup.specs.Current.{fits, currentAnswer, currentTold, currentUlid};
+use lookup::Found;
+
+// Four words and a text, where there is room for both.
+fn tell(told: &mut [u64], ulid: &mut [u8], row: [u64; 4], text: &[u8]) -> u64
+    ensures answer { λ r. ⌜ r ≡ cond (fits (now (told .entry)) (now (ulid .entry)) (now (text .entry))) (answer 0 0) (answer 19 0) ⌝ }
+    ensures told { λ _. ⌜ now (told .exit)
+        ≡ cond (fits (now (told .entry)) (now (ulid .entry)) (now (text .entry)))
+        (overwritten (now (told .entry)) 0 row) (now (told .entry)) ⌝ }
+    ensures ulid { λ _. ⌜ now (ulid .exit)
+        ≡ cond (fits (now (told .entry)) (now (ulid .entry)) (now (text .entry)))
+        (overwritten (now (ulid .entry)) 0 (now (text .entry))) (now (ulid .entry)) ⌝ }
+{
+    if told.len() < 4 {
+        return words::answer(19, 0);
+    }
+    if !slices::write_bytes(ulid, 0, text) {
+        return words::answer(19, 0);
+    }
+    words::store(told, 0, &row);
+    words::answer(0, 0)
+}
+
+// Whether there is one, its record's start, its value's length, the delete flag; and its ULID. The
+// word is a refusal's place. 19: fewer than four words, or fewer than 26 bytes for a ULID.
+#[no_mangle]
+pub extern "C" fn vof_current(
+    pack: &[u8],
+    bucket: &[u8],
+    object: &[u8],
+    told: &mut [u64],
+    ulid: &mut [u8],
+) -> u64
+    ensures answer { λ r. ⌜ r
+        ≡ currentAnswer (lookup packLimit (now (pack .entry)) (now (bucket .entry)) (now (object .entry)))
+        (length (now (told .entry))) (length (now (ulid .entry))) ⌝ }
+    ensures told { λ _. ⌜ now (told .exit)
+        ≡ currentTold (lookup packLimit (now (pack .entry)) (now (bucket .entry)) (now (object .entry)))
+        (now (told .entry)) (length (now (ulid .entry))) ⌝ }
+    ensures ulid { λ _. ⌜ now (ulid .exit)
+        ≡ currentUlid (lookup packLimit (now (pack .entry)) (now (bucket .entry)) (now (object .entry)))
+        (length (now (told .entry))) (now (ulid .entry)) ⌝ }
+{
+    match lookup::lookup(pack, bucket, object) {
+        Found::Nothing => tell(told, ulid, [0; 4], b""),
+        Found::Current(v) => {
+            let row = [1, v.start as u64, v.len as u64, words::flag(v.deleted)];
+            tell(told, ulid, row, slices::part(pack, v.identifier.ulid))
+        }
+        Found::Inadmissible => words::answer(20, 0),
+        Found::TooLong => words::answer(1, 0),
+        Found::Fault(f, at) => words::answer(tlv::number(f), at),
+        Found::Unreadable(f, at) => words::answer(records::number(f), at),
+    }
+}

@@ -1,0 +1,5 @@
+mod Entries
+mod Scans
+mod Parts
+mod Places
+mod Records

@@ -1,0 +1,6 @@
+pub mod Logic
+pub mod Lists
+pub mod Tables
+pub mod Bytes
+pub mod Places
+pub mod Overwriting

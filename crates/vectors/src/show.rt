@@ -1,0 +1,78 @@
+// What is found, printed: numbers behind a letter or a sign. `@` is a place, `l` a length, `n` a count.
+use libc::STDOUT_FILENO;
+use msgpack::Boolean;
+use msgpack::Content;
+use msgpack::Found;
+use msgpack::Integer;
+use msgpack::Items;
+use msgpack::Passed;
+
+pub(crate) fn say(text: &[u8]) {
+    io::write_all(STDOUT_FILENO, text);
+}
+
+pub(crate) fn say_number(letter: u8, n: usize) {
+    let label = [b' ', letter, b' '];
+    say(&label);
+    io::print_decimal(STDOUT_FILENO, n as u64);
+}
+
+pub(crate) fn say_hash(hash: u64) {
+    say(b" ");
+    io::print_hex(STDOUT_FILENO, hash, 16);
+}
+
+fn say_missing() {
+    say(b" missing");
+}
+
+pub(crate) fn say_passed(p: Passed) {
+    match p {
+        Passed::Whole(n) => say_number(b'l', n),
+        Passed::Cut => say(b" cut"),
+        Passed::TooDeep => say(b" too deep"),
+    }
+}
+
+pub(crate) fn say_integer(i: Integer) {
+    match i {
+        Integer::NonNegative(n) => say_number(b'+', n as usize),
+        Integer::Negative(n) => say_number(b'-', n as usize),
+        Integer::Missing => say_missing(),
+    }
+}
+
+pub(crate) fn say_content(c: Content) {
+    match c {
+        Content::Part { start, len } => {
+            say_number(b'@', start);
+            say_number(b'l', len);
+        }
+        Content::Missing => say_missing(),
+    }
+}
+
+pub(crate) fn say_boolean(b: Boolean) {
+    match b {
+        Boolean::Read(set) => say_number(b'=', set as usize),
+        Boolean::Missing => say_missing(),
+    }
+}
+
+pub(crate) fn say_items(i: Items) {
+    match i {
+        Items::Counted { count, size } => {
+            say_number(b'n', count);
+            say_number(b'@', size);
+        }
+        Items::Missing => say_missing(),
+    }
+}
+
+pub(crate) fn say_found(f: Found) {
+    match f {
+        Found::At(n) => say_number(b'@', n),
+        Found::Missing => say_missing(),
+        Found::Broken => say(b" broken"),
+    }
+}
