@@ -10,34 +10,20 @@ use borrow.Author.Tests.{eq-eqb, ne-eqb, ltb-true, ltb-false}
 use lib.Dec.{eqb, ltb}
 use lib.ListN.{length, getD, drop, drop-of-length-le}
 use lib.Seq.{drop-cons}
-use Rattle.identifier.specs.Texts.{member, all, before, less}
+use Rattle.identifier.specs.Texts.{all, before, less}
 
-module _ (s : List ℕ) (k : ℕ) where
-  module _ (x : ℕ) where
-    pub member-here : k < length s → getD s k 0 ≡ x → member x (drop k s) ≡ true
-    unfolding member
-    member-here h e = rw (drop-cons s k 0 h, eq-eqb (getD s k 0) x e)
+module _ (s : List ℕ) (k : ℕ) (p : ℕ → Bool) where
+  pub all-fails : k < length s → p (getD s k 0) ≡ false → all p (drop k s) ≡ false
+  unfolding all
+  all-fails h e = rw (drop-cons s k 0 h, e)
 
-    pub member-later : k < length s → (getD s k 0 ≡ x → ⊥) → member x (drop k s) ≡ member x (drop (k + 1) s)
-    unfolding member
-    member-later h n = rw (drop-cons s k 0 h, ne-eqb (getD s k 0) x n, add-one)
+  pub all-later : k < length s → p (getD s k 0) ≡ true → all p (drop k s) ≡ all p (drop (k + 1) s)
+  unfolding all
+  all-later h e = rw (drop-cons s k 0 h, e, add-one)
 
-    pub member-end : length s ≤ k → member x (drop k s) ≡ false
-    unfolding member
-    member-end h = rw (drop-of-length-le s h)
-
-  module _ (p : ℕ → Bool) where
-    pub all-fails : k < length s → p (getD s k 0) ≡ false → all p (drop k s) ≡ false
-    unfolding all
-    all-fails h e = rw (drop-cons s k 0 h, e)
-
-    pub all-later : k < length s → p (getD s k 0) ≡ true → all p (drop k s) ≡ all p (drop (k + 1) s)
-    unfolding all
-    all-later h e = rw (drop-cons s k 0 h, e, add-one)
-
-    pub all-end : length s ≤ k → all p (drop k s) ≡ true
-    unfolding all
-    all-end h = rw (drop-of-length-le s h)
+  pub all-end : length s ≤ k → all p (drop k s) ≡ true
+  unfolding all
+  all-end h = rw (drop-of-length-le s h)
 
 module _ (a b : List ℕ) (k : ℕ) where
   module _ (inside : k < length a) (within : k < length b) where

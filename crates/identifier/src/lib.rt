@@ -1,8 +1,10 @@
 // Identifiers: ULID, bucket and object, as texts in lent slices, as one composite text, and held by
 // value. The work is done on slices; the struct is for holding an identifier past its text.
 ghost use mathlib.Core.Path.{_≡_};
+ghost use mathlib.Core.Bool.{_&&_};
 ghost use mathlib.Core.Option.{some};
 ghost use Prim.Native.Nat.{_+_, _≤_};
+ghost use lib.Dec.{leb};
 ghost use lib.ListN.{length};
 ghost use Rattle.slices.specs.Overwriting.{overwritten};
 ghost use Rattle.identifier.specs.Texts.{before, less};
@@ -42,19 +44,22 @@ pub enum Written {
     Short,
 }
 
-const ALPHABET: [u8; 32] = *b"0123456789ABCDEFGHJKMNPQRSTVWXYZ";
+fn is_between(x: u8, first: u8, last: u8) -> bool
+    ensures { λ r. ⌜ r ≡ (leb first x && leb x last) ⌝ }
+{
+    (first <= x) & (x <= last)
+}
 
+// The digits, and the capitals without I, L, O and U.
 fn is_character(x: u8) -> bool
     ensures { λ r. ⌜ r ≡ isCharacter x ⌝ }
 {
-    let mut k = 0;
-    while k < 32 {
-        if ALPHABET[k] == x {
-            return true;
-        }
-        k += 1;
-    }
-    false
+    is_between(x, b'0', b'9')
+        | is_between(x, b'A', b'H')
+        | is_between(x, b'J', b'K')
+        | is_between(x, b'M', b'N')
+        | is_between(x, b'P', b'T')
+        | is_between(x, b'V', b'Z')
 }
 
 pub fn is_ulid(s: &[u8]) -> bool

@@ -1,58 +1,42 @@
--- No entry passed is the byte, so it is in the table when it is in the rest.
+-- `identifier::is_character` meets its contract: the ranges are the alphabet.
 use borrow.Author.Needs.{needs}
-use Rattle.identifier.specs.Ulid.{alphabet, isCharacter}
-use Rattle.identifier.specs.Texts.{member}
-use Rattle.identifier.proofs.Loops.{member-here, member-later, member-end}
-use lib.ListN.{drop}
 use native.Mathlib.Omega.{arith}
-use mathlib.Core.Path.{_≡_, refl, sym, _∙_}
-use Prim.Native.Nat.{_-_, _≤_}
+use Rattle.identifier.proofs.Ranges.{ranges-are}
 use Rattle.identifier.proofs.is_character.Statement.{statement}
 use Rattle.identifier.proofs.is_character.Tie as tie
 
-abbrev Inv-loop : tie.InvT-loop
-Inv-loop x k₀ k = (k ≤ 32) × (isCharacter x ≡ member x (drop k alphabet))
+is-between-requires : tie.Need-is-between-requires
+is-between-requires c κs = search needs
 
-abbrev μ-loop : tie.MeasureT-loop
-μ-loop x k₀ k = 32 - k
+is-between-requires-2 : tie.Need-is-between-requires-2
+is-between-requires-2 c κs = search needs
 
-loop-holds : tie.Need-loop-holds Inv-loop μ-loop
-unfolding isCharacter
-loop-holds c = (omega arith, refl)
+is-between-requires-3 : tie.Need-is-between-requires-3
+is-between-requires-3 c κs = search needs
 
-array-read-if1 : tie.Need-array-read-if1 Inv-loop μ-loop
-array-read-if1 c = search needs
+is-between-requires-4 : tie.Need-is-between-requires-4
+is-between-requires-4 c κs = search needs
 
-returns : tie.Need-returns Inv-loop μ-loop
-unfolding alphabet
-returns c = let l = c .before .before in
-    sym (l .loop .inv .1 ∙ member-here alphabet (l .loop .k) (l .before .args .x) (omega arith) (c .if1 .taken))
+is-between-requires-5 : tie.Need-is-between-requires-5
+is-between-requires-5 c κs = search needs
 
-add-k : tie.Need-add-k Inv-loop μ-loop
-add-k c = search needs
+is-between-requires-6 : tie.Need-is-between-requires-6
+is-between-requires-6 c κs = search needs
 
-loop-less : tie.Need-loop-less Inv-loop μ-loop
-loop-less c = search needs
-
-loop-again : tie.Need-loop-again Inv-loop μ-loop
-unfolding alphabet
-loop-again c = let l = c .before .before in
-    (omega arith, l .loop .inv .1 ∙ member-later alphabet (l .loop .k) (l .before .args .x) (omega arith) (c .if1 .left))
-
-returns-2 : tie.Need-returns-2 Inv-loop μ-loop
-unfolding alphabet
-returns-2 c = sym (c .before .loop .inv .1 ∙ member-end alphabet (c .before .loop .k) (c .before .before .args .x) (omega arith))
+returns : tie.Need-returns
+returns c =
+    let p = c .before .before .before in
+    rw (p .before .before .is-between .ensures, p .before .is-between2 .ensures, p .is-between3 .ensures, c .before .before .is-between4 .ensures, c .before .is-between5 .ensures, c .is-between6 .ensures)
+    (ranges-are (p .before .before .before .args .x) (search needs))
 
 pub is-character-spec : {M : Type 1} → statement M
 is-character-spec =
     tie.close
     (tie.spec
-    Inv-loop
-    μ-loop
-    loop-holds
-    array-read-if1
-    returns
-    add-k
-    loop-less
-    loop-again
-    returns-2)
+    is-between-requires
+    is-between-requires-2
+    is-between-requires-3
+    is-between-requires-4
+    is-between-requires-5
+    is-between-requires-6
+    returns)
