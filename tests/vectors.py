@@ -8,11 +8,11 @@ and stdout; with --check it compares them. That the program prints this stdout i
 import sys
 
 sys.dont_write_bytecode = True
-from stored import Vectors, field, number
+from stored import Vectors, number
 
 HEADS = ["text head", "bytes head", "array head", "map head", "integer head"]
 READERS = ["item", "integer", "text", "binary", "boolean", "array", "map"]
-vectors = Vectors("vectors", ["hash", *READERS, "key", *HEADS])
+vectors = Vectors("vectors", ["hash", *READERS, "key", "pair", *HEADS])
 
 
 def read(kind, title, data, found):
@@ -170,22 +170,46 @@ def contents():
         read(kind, title, data, found)
 
 
+def code(key):
+    """A short key as a number: its bytes, with a 1 before them."""
+    return int.from_bytes(b"\x01" + key, "big")
+
+
 def keys():
+    """Place 0 is no value's: the key is missing."""
     for title, key, data, found in [
-        ("fixstr key", b"a", b"\x81\xa1a\x05", "@ 3"),
-        ("str 8 key", b"a", b"\x81\xd9\x01a\x05", "@ 4"),
-        ("str 16 key", b"a", b"\x81\xda\x00\x01a\x05", "@ 5"),
-        ("str 32 key", b"a", b"\x81\xdb\x00\x00\x00\x01a\x05", "@ 7"),
-        ("repeated key", b"a", b"\x83\xa1a\x05\xd9\x01a\x06\xa1b\x07", "@ 7"),
-        ("keys of other types", b"a", b"\x84\xc4\x01a\x01\x05\x02\x90\xc0\xa1a\xc3", "@ 11"),
-        ("key with nil", b"z", b"\x81\xa1z\xc0", "@ 3"),
-        ("key that is no UTF-8", b"\xff", b"\x81\xa1\xff\xa2\xfe\xff", "@ 3"),
-        ("key that begins another", b"a", b"\x81\xa2ab\x05", "missing"),
-        ("key in an empty map", b"a", b"\x80", "missing"),
+        ("fixstr key", b"a", b"\x81\xa1a\x05", "@ 3 2 0"),
+        ("str 8 key", b"a", b"\x81\xd9\x01a\x05", "@ 4 2 0"),
+        ("str 16 key", b"a", b"\x81\xda\x00\x01a\x05", "@ 5 2 0"),
+        ("str 32 key", b"a", b"\x81\xdb\x00\x00\x00\x01a\x05", "@ 7 2 0"),
+        ("repeated key", b"a", b"\x83\xa1a\x05\xd9\x01a\x06\xa1b\x07", "@ 7 2 1"),
+        ("keys of other types", b"a", b"\x84\xc4\x01a\x01\x05\x02\x90\xc0\xa1a\xc3", "@ 11 2 0"),
+        ("key with nil", b"z", b"\x81\xa1z\xc0", "@ 3 2 0"),
+        ("key that is no UTF-8", b"\xff", b"\x81\xa1\xff\xa2\xfe\xff", "@ 3 2 0"),
+        ("key of three bytes", b"???", b"\x82\xa2??\x01\xa3???\x05", "@ 9 2 0"),
+        ("key that begins another", b"a", b"\x81\xa2ab\x05", "@ 0 2 0"),
+        ("key in an empty map", b"a", b"\x80", "@ 0 2 0"),
         ("key in an array", b"a", b"\x91\xa1a", "broken"),
         ("key in a map, cut", b"a", b"\x82\xa1a\x05\xa1b", "broken"),
+        ("another key twice", b"a", b"\x83\xa1z\x05\xa1a\x05\xa1z\x05", "@ 6 2 0"),
+        ("key in a map below", b"a", b"\x82\xa1a\x05\xa1b\x81\xa1a\x05", "@ 3 2 0"),
+        ("key twice with one value", b"a", b"\x82\xa1a\x05\xa1a\x05", "@ 6 2 1"),
     ]:
-        vectors.add("key", "msgpack " + title, data, field(key), found)
+        vectors.add("key", "msgpack " + title, data, number(code(key)), found)
+
+
+def pairs():
+    for title, data, at, found in [
+        ("pair", b"\x81\xa1a\x05", 1, "k 353 @ 3 @ 4"),
+        ("pair in other widths", b"\xd9\x01a\xcc\x05\x90", 0, "k 353 @ 3 @ 5"),
+        ("pair with a key of another type", b"\x05\xa1a", 0, "k 4294967295 @ 1 @ 3"),
+        ("pair with a long key", b"\xa4abcd\xc0", 0, "k 4294967295 @ 5 @ 6"),
+        ("pair without its value", b"\xa1a", 0, "cut"),
+        ("pair past the end", b"\xa1a\x05", 3, "cut"),
+        ("pair 15 deep", b"\xa1a" + b"\x91" * 14 + b"\x90", 0, "k 353 @ 2 @ 17"),
+        ("pair 16 deep", b"\xa1a" + b"\x91" * 15 + b"\x90", 0, "too deep"),
+    ]:
+        vectors.add("pair", "msgpack " + title, data, number(at), found)
 
 
 # ---- heads written
@@ -234,6 +258,6 @@ def heads():
     head("map head", 2**64 - 1, 15, "no room", b"")
 
 
-for section in [hashes, formats, depths, cuts, integers, contents, keys, heads]:
+for section in [hashes, formats, depths, cuts, integers, contents, keys, pairs, heads]:
     section()
 vectors.store()

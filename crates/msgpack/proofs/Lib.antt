@@ -1,4 +1,6 @@
 mod Heads
 mod Passages
+mod Codes
+mod Updates
+mod Maps
 mod Integers
-mod LastValues

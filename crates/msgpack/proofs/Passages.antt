@@ -1,26 +1,32 @@
--- How passing over goes on: by the head of an item, and item by item through a container.
+-- How passing over goes on: by the head of an item at a place, and item by item through a container.
 use Prim.Native.Nat.{ℕ, zero, suc, _+_, _-_, _≤_, _<_}
 use mathlib.Core.List.{List}
-use mathlib.Core.Path.{_≡_, refl}
-use native.Mathlib.Nat.{not-suc-le-zero, zero-add, add-assoc}
+use mathlib.Core.Path.{_≡_, refl, ap, _∙_}
+use native.Mathlib.Nat.{not-suc-le-zero, add-assoc}
 use native.Mathlib.Numerals.{sub-one}
 use native.Mathlib.Omega.{arith}
-use lib.ListN.{length, take, drop}
+use lib.ListN.{length, drop, length-drop}
 use lib.Seq.{drop-drop}
-use Rattle.slices.specs.Lists.{part-to-end}
-use Rattle.msgpack.specs.Formats.{arrayKind}
-use Rattle.msgpack.specs.Items.{Head, Passage, whole, cut, tooDeep, headOf, itemsOf, beyond, andThen, passItems, passItem}
-use Rattle.msgpack.specs.PassingLaws.{within-container}
-
-pub beyond-zero : (r : Passage) → beyond 0 r ≡ r
-beyond-zero (whole n) = rw zero-add
-beyond-zero cut = refl
-beyond-zero tooDeep = refl
+use Rattle.slices.specs.Logic.{absurd-numbers}
+use Rattle.msgpack.specs.Formats.{unusedKind, arrayKind}
+use Rattle.msgpack.specs.Items.{Head, Passage, whole, cut, tooDeep, headOf, HeadAt, itemsOf, beyond, andThen, passItems, passItem}
+use Rattle.msgpack.specs.PassingLaws.{head-within, within-container, beyond-whole, bounded}
 
 beyond-beyond : (a b : ℕ) (r : Passage) → beyond a (beyond b r) ≡ beyond (a + b) r
 beyond-beyond a b (whole n) = rw add-assoc
 beyond-beyond a b cut = refl
 beyond-beyond a b tooDeep = refl
+
+pub beyond-cut : (k : ℕ) (r : Passage) → beyond k r ≡ cut → r ≡ cut
+beyond-cut k (whole m) h = absurd-numbers (cc)
+beyond-cut k cut h = refl
+beyond-cut k tooDeep h = absurd-numbers (cc)
+
+pub passed-from : (from at : ℕ) (r : Passage) → beyond from r ≡ whole at → r ≡ whole (at - from)
+passed-from from at r e =
+    let b = beyond-whole from r at e in
+    let n : b .after ≡ at - from = omega (arith, b .total) in
+    b .rest ∙ ap whole n
 
 -- ---- an item of several
 
@@ -40,12 +46,21 @@ module _ (item : List ℕ → Passage) where
   none-left zero s h = refl
   none-left (suc left) s h = absurd (omega arith)
 
--- r is what passing over a container's items gave
-pub container : (a : ℕ) (s : List ℕ) (h : Head) → h ≡ headOf s → arrayKind ≤ h .kind → 0 < a → (items : ℕ) → items ≡ itemsOf (h .kind) (h .count) → (r : Passage)
-    → r ≡ passItems (passItem (a - 1)) items (take (length s - h .size) (drop (h .size) s)) → beyond (h .size) r ≡ passItem a s
-container zero s h e l p items q r g = absurd (not-suc-le-zero p)
-container (suc a) s h e l p items q r g = rw (g, q, part-to-end (h .size) s, sub-one) (within-container a s h e l)
+-- ---- at a place
 
--- r is what passing over the item at `at` gave
-pub got : (a at : ℕ) (s : List ℕ) (r : Passage) → r ≡ passItem a (take (length s - at) (drop at s)) → passItem a (drop at s) ≡ r
-got a at s r p = rw (p, part-to-end at s)
+-- a whole item ends inside
+pub item-inside : (a at : ℕ) (s : List ℕ) (n : ℕ) → passItem a (drop at s) ≡ whole n → at + n ≤ length s
+item-inside a at s n p = let b = bounded a (drop at s) n p in omega (arith, b .some-byte, b .within, length-drop at s)
+
+-- so does a head that is used
+pub head-inside : (at : ℕ) (s : List ℕ) (h : Head) → h ≡ headOf (drop at s) → (h .kind ≡ unusedKind → ⊥) → at + h .size ≤ length s
+head-inside at s h e u =
+    let w = head-within (drop at s) in
+    let size : h .size ≡ headOf (drop at s) .size = ap (λ (h : Head). h .size) e in
+    omega (arith, w .inside, w .begun (λ (k : headOf (drop at s) .kind ≡ unusedKind). u (ap (λ (h : Head). h .kind) e ∙ k)), length-drop at s)
+
+-- r is what passing over a container's items gave
+pub container : (a at : ℕ) (s : List ℕ) (h : Head) → h ≡ headOf (drop at s) → arrayKind ≤ h .kind → 0 < a → (items : ℕ) → items ≡ itemsOf (h .kind) (h .count) → (r : Passage)
+    → r ≡ passItems (passItem (a - 1)) items (drop (at + h .size) s) → beyond (h .size) r ≡ passItem a (drop at s)
+container zero at s h e l p items q r g = absurd (not-suc-le-zero p)
+container (suc a) at s h e l p items q r g = rw (g, q, ← drop-drop (h .size) at s, sub-one) (within-container a (drop at s) h e l)

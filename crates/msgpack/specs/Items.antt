@@ -96,3 +96,8 @@ depthAllowed = 16
 
 abbrev pub passOver : List ℕ → Passage
 passOver s = passItem depthAllowed s
+
+-- a whole item stands at the front
+pub record WholeItem (s : List ℕ) : Type 0 where
+  pub size : ℕ
+  pub is : passOver s ≡ whole size

@@ -2,7 +2,11 @@ pub mod Formats
 pub mod Items
 pub mod Readers
 pub mod Lookup
+pub mod Pairs
 pub mod HeadLaws
 pub mod PassingLaws
 pub mod ReaderLaws
 pub mod LookupLaws
+pub mod FrontLaws
+pub mod CodeLaws
+pub mod PairLaws

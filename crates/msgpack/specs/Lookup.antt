@@ -9,8 +9,6 @@ use Rattle.slices.specs.Bytes.{sameBytes}
 use Rattle.msgpack.specs.Formats.{mapKind}
 use Rattle.msgpack.specs.Items.{Passage, whole, cut, tooDeep, headOf, passItem, depthAllowed}
 use Rattle.msgpack.specs.Readers.{Part, content, readText}
-use Rattle.msgpack.specs.declared.Found.{Found}
-use Rattle.msgpack.specs.declared.Found.the-variants as found-answer
 
 abbrev pub contentIs : List ℕ → List ℕ → Option Part → Bool
 contentIs key s (some p) = sameBytes (content s p) key
@@ -25,11 +23,6 @@ pub data ValuePlace : Type 0 where
   found : ℕ → ValuePlace
   missing : ValuePlace
   broken : ValuePlace  -- no whole map is there
-
-abbrev pub placeOf : Found → ValuePlace
-placeOf (found-answer.At n) = found n
-placeOf found-answer.Missing = missing
-placeOf found-answer.Broken = broken
 
 abbrev pub ifWhole : Passage → (ℕ → ValuePlace) → ValuePlace
 ifWhole (whole n) next = next n

@@ -1,17 +1,19 @@
--- Laws of passing over an item: what each answer says of its head, and that a whole item takes a byte at least and none past the end.
+-- Laws of passing over an item: what each answer says of its head, that a whole item takes a byte at least and none past the end, and that it is
+-- whole with a greater allowance too.
 use Prim.Native.Nat.{ℕ, zero, suc, _+_, _≤_, _<_}
 use mathlib.Core.Bool.{Bool, true, false, cond}
 use mathlib.Core.List.{List, [], _∷_}
 use mathlib.Core.Option.{Option, none, some}
-use mathlib.Core.Path.{_≡_, refl}
+use mathlib.Core.Path.{_≡_, refl, sym, ap, _∙_}
 use native.Mathlib.Omega.{arith}
 use borrow.Author.Tests.{le-leb, lt-leb, eq-eqb, ne-eqb, leb-true, leb-false, eqb-false}
 use lib.Dec.{leb, eqb}
 use lib.ListN.{length, drop, length-drop}
+use lib.Seq.{drop-drop}
 use Rattle.slices.specs.Logic.{absurd-numbers}
 use Rattle.endian.specs.Numbers.{big}
 use Rattle.endian.specs.Places.{numberAt}
-use Rattle.msgpack.specs.Formats.{unusedKind, arrayKind, widthOf, formatOf}
+use Rattle.msgpack.specs.Formats.{unusedKind, arrayKind, mapKind, widthOf, formatOf}
 use Rattle.msgpack.specs.Items.{Head, Passage, whole, cut, tooDeep, headBy, headOf, itemsOf, beyond, andThen, passItems, passHead, passItem}
 use Rattle.msgpack.specs.HeadLaws.{number-read}
 
@@ -65,6 +67,13 @@ module _ (a : ℕ) (s : List ℕ) (h : Head) (e : h ≡ headOf s) where
   unfolding passItem passHead
   within-container l = rw (← e, le-leb _ _ l)
 
+pub map-passed : (a : ℕ) (s : List ℕ) → headOf s .kind ≡ mapKind
+    → beyond (headOf s .size) (passItems (passItem a) (headOf s .count + headOf s .count) (drop (headOf s .size) s)) ≡ passItem (suc a) s
+map-passed a s k =
+    let pairs : itemsOf (headOf s .kind) (headOf s .count) ≡ headOf s .count + headOf s .count = rw (eq-eqb _ _ k) in
+    ap (λ (m : ℕ). beyond (headOf s .size) (passItems (passItem a) m (drop (headOf s .size) s))) (sym pairs)
+    ∙ within-container a s (headOf s) refl (omega arith)
+
 -- ---- what an answer says
 
 pub record Beyond (k : ℕ) (r : Passage) (n : ℕ) : Type 0 where
@@ -94,6 +103,33 @@ pub joined : (r : Passage) (next : ℕ → Passage) (n : ℕ) → andThen r next
 joined (whole k) next n h = let b = beyond-whole k (next k) n h in record { first = k; after = b .after; is = refl; rest = b .rest; total = b .total }
 joined cut next n h = absurd-numbers (cc)
 joined tooDeep next n h = absurd-numbers (cc)
+
+-- two items, and `count` pairs after them
+pub record PairJoined (item : List ℕ → Passage) (count : ℕ) (s : List ℕ) (n : ℕ) : Type 0 where
+  pub key : ℕ
+  pub value : ℕ
+  pub after : ℕ
+  pub key-whole : item s ≡ whole key
+  pub value-whole : item (drop key s) ≡ whole value
+  pub rest : passItems item (count + count) (drop (key + value) s) ≡ whole after
+  pub total : key + value + after ≡ n
+
+pub pair-joined : (item : List ℕ → Passage) (count : ℕ) (s : List ℕ) (n : ℕ) → passItems item (suc count + suc count) s ≡ whole n → PairJoined item count s n
+unfolding passItems
+pair-joined item count s n p =
+    let e : suc (suc (count + count)) ≡ suc count + suc count = omega arith in
+    let q : passItems item (suc (suc (count + count))) s ≡ whole n = ap (λ (m : ℕ). passItems item m s) e ∙ p in
+    let x = joined (item s) (λ k. passItems item (suc (count + count)) (drop k s)) n q in
+    let y = joined (item (drop (x .first) s)) (λ m. passItems item (count + count) (drop m (drop (x .first) s))) (x .after) (x .rest) in
+    record {
+      key = x .first;
+      value = y .first;
+      after = y .after;
+      key-whole = x .is;
+      value-whole = y .is;
+      rest = rw drop-drop at (y .rest);
+      total = omega (arith, x .total, y .total);
+    }
 
 module _ (inside : ℕ → List ℕ → Passage) (h : Head) (s : List ℕ) where
   pub data Whole : ℕ → Type 0 where
@@ -166,3 +202,29 @@ pub bounded : (allowance : ℕ) (s : List ℕ) (n : ℕ) → passItem allowance 
 unfolding passItem
 bounded zero s n p = by-head _ (λ count t m q. absurd-numbers (cc)) s n (head-whole _ _ s n p)
 bounded (suc allowance) s n p = by-head _ (items-bounded (passItem allowance) (bounded allowance)) s n (head-whole _ _ s n p)
+
+-- ---- what is whole is whole with a greater allowance
+
+abbrev pub Deeper : (List ℕ → Passage) → (List ℕ → Passage) → Type 0
+Deeper item other = (s : List ℕ) (n : ℕ) → item s ≡ whole n → other s ≡ whole n
+
+items-deeper : (item other : List ℕ → Passage) → Deeper item other → (count : ℕ) → Deeper (passItems item count) (passItems other count)
+unfolding passItems
+items-deeper item other one zero s n p = p
+items-deeper item other one (suc count) s n p =
+    let j = joined (item s) (λ k. passItems item count (drop k s)) n p in
+    rw (one s (j .first) (j .is), items-deeper item other one count (drop (j .first) s) (j .after) (j .rest), j .total)
+
+pub deeper : (a : ℕ) → Deeper (passItem a) (passItem (suc a))
+unfolding passItem
+deeper zero s n p = by n (head-whole _ _ s n p)
+  where
+    by : (n : ℕ) → Whole (λ count t. tooDeep) (headOf s) s n → passItem 1 s ≡ whole n
+    by n (container l q) = absurd-numbers (cc)
+    by n (flat l u f) = sym (flat-whole 1 s (headOf s) refl l u f)
+deeper (suc a) s n p = by (items-deeper (passItem a) (passItem (suc a)) (deeper a)) n (head-whole _ _ s n p)
+  where
+    by : ((count : ℕ) → Deeper (passItems (passItem a) count) (passItems (passItem (suc a)) count))
+        → (n : ℕ) → Whole (passItems (passItem a)) (headOf s) s n → passItem (suc (suc a)) s ≡ whole n
+    by on n (container l q) = sym (within-container (suc a) s (headOf s) refl l) ∙ ap (beyond (headOf s .size)) (on _ _ _ q)
+    by on n (flat l u f) = sym (flat-whole (suc (suc a)) s (headOf s) refl l u f)

@@ -1,18 +1,19 @@
--- What a whole head says; and that heads and contents lie within the list.
-use Prim.Native.Nat.{ℕ, _+_, _≤_, _<_}
+-- What a whole head says; that heads and contents lie within the list; and that the first item of a whole array is whole.
+use Prim.Native.Nat.{ℕ, zero, suc, _+_, _≤_, _<_}
 use mathlib.Core.Bool.{Bool, true, false, cond, _&&_}
 use mathlib.Core.List.{List}
 use mathlib.Core.Option.{none, some}
-use mathlib.Core.Path.{_≡_, refl}
+use mathlib.Core.Path.{_≡_, refl, sym, ap, _∙_}
+use native.Mathlib.Nat.{not-suc-le-zero}
 use native.Mathlib.Omega.{arith}
 use borrow.Author.Tests.{leb-true, eqb-true}
 use lib.Dec.{leb, eqb}
-use lib.ListN.{length}
+use lib.ListN.{length, drop}
 use Rattle.slices.specs.Logic.{absurd-numbers}
-use Rattle.msgpack.specs.Formats.{unusedKind}
-use Rattle.msgpack.specs.Items.{Head, headOf}
-use Rattle.msgpack.specs.Readers.{isWhole, Part, part, contentAt, Counted, counted, countAt}
-use Rattle.msgpack.specs.PassingLaws.{head-within}
+use Rattle.msgpack.specs.Formats.{unusedKind, arrayKind}
+use Rattle.msgpack.specs.Items.{Head, whole, headOf, itemsOf, passItems, passItem, WholeItem}
+use Rattle.msgpack.specs.Readers.{isWhole, Part, part, contentAt, Counted, counted, countAt, readArray}
+use Rattle.msgpack.specs.PassingLaws.{head-within, within-container, beyond-whole, joined, deeper}
 
 pub record IsWhole (kind : ℕ) (h : Head) (n : ℕ) : Type 0 where
   pub of-kind : h .kind ≡ kind
@@ -52,3 +53,36 @@ head-inside kind s c e = by (eqb (headOf s .kind) kind) e
         let is : counted (headOf s .count) (headOf s .size) ≡ c = cc in
         rw (← is) (head-within s .inside)
     by false q = absurd-numbers (cc)
+
+-- ---- the first item of an array
+
+record FirstWhole (a : ℕ) (s : List ℕ) : Type 0 where
+  size : ℕ
+  is : passItem a s ≡ whole size
+
+first-whole : (a count : ℕ) (s : List ℕ) (n : ℕ) → 0 < count → passItems (passItem a) count s ≡ whole n → FirstWhole a s
+unfolding passItems
+first-whole a zero s n h p = absurd (not-suc-le-zero h)
+first-whole a (suc count) s n h p =
+    let j = joined (passItem a s) (λ k. passItems (passItem a) count (drop k s)) n p in
+    record { size = j .first; is = j .is }
+
+array-first : (s : List ℕ) → headOf s .kind ≡ arrayKind → 0 < headOf s .count → WholeItem s → WholeItem (drop (headOf s .size) s)
+array-first s k h w =
+    let items : itemsOf (headOf s .kind) (headOf s .count) ≡ headOf s .count = rw k in
+    let b = beyond-whole (headOf s .size) (passItems (passItem 15) (itemsOf (headOf s .kind) (headOf s .count)) (drop (headOf s .size) s)) (w .size)
+    (within-container 15 s (headOf s) refl (omega arith) ∙ w .is) in
+    let f = first-whole 15 (headOf s .count) (drop (headOf s .size) s) (b .after) h
+    (ap (λ (n : ℕ). passItems (passItem 15) n (drop (headOf s .size) s)) (sym items) ∙ b .rest) in
+    record { size = f .size; is = deeper 15 _ _ (f .is) }
+
+pub first-item : (s : List ℕ) (c : Counted) → readArray s ≡ some c → 0 < c .count → WholeItem s → WholeItem (drop (c .size) s)
+unfolding countAt
+first-item s c e h w = by (eqb (headOf s .kind) arrayKind) refl e
+  where
+    by : (t : Bool) → eqb (headOf s .kind) arrayKind ≡ t → cond t (some (counted (headOf s .count) (headOf s .size))) none ≡ some c
+        → WholeItem (drop (c .size) s)
+    by true k q =
+        let is : counted (headOf s .count) (headOf s .size) ≡ c = cc in
+        rw (← is) (array-first s (eqb-true _ _ k) (rw (← is) at h) w)
+    by false k q = absurd-numbers (cc)

@@ -1,16 +1,14 @@
 // MessagePack items by the public specification: one passed over, read at the front of a slice, or
 // looked up in a map by a text key.
-ghost use mathlib.Core.Bool.{cond};
 ghost use mathlib.Core.Option.{some};
 ghost use mathlib.Core.Path.{_≡_};
 ghost use Prim.Native.Nat.{_≤_, _<_, _^_};
-ghost use lib.ListN.{length, drop};
-ghost use Rattle.msgpack.specs.Formats.{formatOf};
-ghost use Rattle.msgpack.specs.Items.{headRead, HeadAt, itemsOf, passItems, passItem, passOver, passageOf};
+ghost use lib.ListN.{length, drop, getD};
+ghost use Rattle.msgpack.specs.Formats.{arrayKind, formatOf};
+ghost use Rattle.msgpack.specs.Items.{head, headRead, HeadAt, itemsOf, passItems, passItem, passOver, passageOf};
 ghost use Rattle.msgpack.specs.Readers.{isWhole, contentAt, readText, readBinary, partOf, readBoolean, booleanOf, twosComplement, integerOf, readInteger, integerRead, countAt, readArray, readMap, countedOf};
-ghost use Rattle.msgpack.specs.Lookup.{keyAt, found, missing, placeOf, lastWhere, lastValue};
+ghost use Rattle.msgpack.specs.Pairs.{codeAt, position, pairOf, pairAt, Sized, WithValue, NoPairs, PairsFrom, PairsRead};
 use endian::Number;
-use slices::Place;
 
 // The kinds of items, as numbers that can be compared.
 const UNUSED: usize = 0;
@@ -41,63 +39,41 @@ const ALLOWANCE: usize = 16;
 // together say.
 struct Format(usize, usize, usize);
 
-// The first bytes C0 to DF.
-const FORMATS: [Format; 32] = [
-    Format(NIL, 0, 0),
-    Format(UNUSED, 0, 0),
-    Format(BOOLEAN, 0, 0),
-    Format(BOOLEAN, 0, 0),
-    Format(BINARY, 1, 0),
-    Format(BINARY, 2, 0),
-    Format(BINARY, 4, 0),
-    Format(EXTENSION, 1, 1),
-    Format(EXTENSION, 2, 1),
-    Format(EXTENSION, 4, 1),
-    Format(FLOAT, 0, 4),
-    Format(FLOAT, 0, 8),
-    Format(INTEGER, 0, 1),
-    Format(INTEGER, 0, 2),
-    Format(INTEGER, 0, 4),
-    Format(INTEGER, 0, 8),
-    Format(INTEGER, 0, 1),
-    Format(INTEGER, 0, 2),
-    Format(INTEGER, 0, 4),
-    Format(INTEGER, 0, 8),
-    Format(EXTENSION, 0, 2),
-    Format(EXTENSION, 0, 3),
-    Format(EXTENSION, 0, 5),
-    Format(EXTENSION, 0, 9),
-    Format(EXTENSION, 0, 17),
-    Format(TEXT, 1, 0),
-    Format(TEXT, 2, 0),
-    Format(TEXT, 4, 0),
-    Format(ARRAY, 2, 0),
-    Format(ARRAY, 4, 0),
-    Format(MAP, 2, 0),
-    Format(MAP, 4, 0),
-];
-
-// What the first byte b says.
-fn format_of(b: u8) -> Format
+// What a first byte from C0 to DF says.
+fn sized_format(b: u8) -> Format
+    requires { ⌜ (0xc0 ≤ b) × (b < 0xe0) ⌝ }
     ensures { λ r. ⌜ r ≡ formatOf b ⌝ }
 {
-    let n = b as usize;
-    if n < 0x80 {
-        return Format(INTEGER, 0, 0);
+    match b {
+        0xc0 => Format(NIL, 0, 0),
+        0xc1 => Format(UNUSED, 0, 0),
+        0xc2 => Format(BOOLEAN, 0, 0),
+        0xc3 => Format(BOOLEAN, 0, 0),
+        0xc4 => Format(BINARY, 1, 0),
+        0xc5 => Format(BINARY, 2, 0),
+        0xc6 => Format(BINARY, 4, 0),
+        0xc7 => Format(EXTENSION, 1, 1),
+        0xc8 => Format(EXTENSION, 2, 1),
+        0xc9 => Format(EXTENSION, 4, 1),
+        0xca => Format(FLOAT, 0, 4),
+        0xcb => Format(FLOAT, 0, 8),
+        0xcc | 0xd0 => Format(INTEGER, 0, 1),
+        0xcd | 0xd1 => Format(INTEGER, 0, 2),
+        0xce | 0xd2 => Format(INTEGER, 0, 4),
+        0xcf | 0xd3 => Format(INTEGER, 0, 8),
+        0xd4 => Format(EXTENSION, 0, 2),
+        0xd5 => Format(EXTENSION, 0, 3),
+        0xd6 => Format(EXTENSION, 0, 5),
+        0xd7 => Format(EXTENSION, 0, 9),
+        0xd8 => Format(EXTENSION, 0, 17),
+        0xd9 => Format(TEXT, 1, 0),
+        0xda => Format(TEXT, 2, 0),
+        0xdb => Format(TEXT, 4, 0),
+        0xdc => Format(ARRAY, 2, 0),
+        0xdd => Format(ARRAY, 4, 0),
+        0xde => Format(MAP, 2, 0),
+        _ => Format(MAP, 4, 0),
     }
-    if n < 0x90 {
-        return Format(MAP, 0, n - 0x80);
-    }
-    if n < 0xa0 {
-        return Format(ARRAY, 0, n - 0x90);
-    }
-    if n < 0xc0 {
-        return Format(TEXT, 0, n - 0xa0);
-    }
-    if n < 0xe0 {
-        return FORMATS[n - 0xc0];
-    }
-    Format(INTEGER, 0, 0)
 }
 
 // The first byte of an item, and the number that may follow it: the item's kind, the head's own
@@ -116,18 +92,16 @@ const NO_HEAD: Head = Head {
     count: 0,
 };
 
-// The head at the front of s.
-fn head_of(s: &[u8]) -> Head
-    ensures { λ r. ⌜ HeadAt (now (s .entry)) (headRead r) ⌝ }
+// The head at a place of s, whose first byte b is one from C0 to DF.
+fn sized_head(s: &[u8], at: usize, b: u8) -> Head
+    requires { ⌜ (at < length (now s)) × (b ≡ getD (now s) at 0) × (0xc0 ≤ b) × (b < 0xe0) ⌝ }
+    ensures { λ r. ⌜ HeadAt (drop at (now (s .entry))) (headRead r) ⌝ }
 {
-    if s.len() == 0 {
-        return NO_HEAD;
-    }
-    let f = format_of(s[0]);
+    let f = sized_format(b);
     let kind = f.0;
     let width = f.1;
     let amount = f.2;
-    match endian::read_big(s, 1, width) {
+    match endian::read_big(s, at + 1, width) {
         Number::Read(n) => Head {
             kind,
             size: 1 + width,
@@ -135,6 +109,44 @@ fn head_of(s: &[u8]) -> Head
         },
         Number::Missing => NO_HEAD,
     }
+}
+
+// A head of one byte.
+fn short_head(kind: usize, count: usize) -> Head
+    ensures { λ r. ⌜ headRead r ≡ head kind 1 count ⌝ }
+{
+    Head {
+        kind,
+        size: 1,
+        count,
+    }
+}
+
+// The head at a place of s.
+fn head_at(s: &[u8], at: usize) -> Head
+    ensures { λ r. ⌜ HeadAt (drop at (now (s .entry))) (headRead r) ⌝ }
+{
+    if s.len() <= at {
+        return NO_HEAD;
+    }
+    let b = s[at];
+    let n = b as usize;
+    if n < 0x80 {
+        return short_head(INTEGER, 0);
+    }
+    if n < 0x90 {
+        return short_head(MAP, n - 0x80);
+    }
+    if n < 0xa0 {
+        return short_head(ARRAY, n - 0x90);
+    }
+    if n < 0xc0 {
+        return short_head(TEXT, n - 0xa0);
+    }
+    if n < 0xe0 {
+        return sized_head(s, at, b);
+    }
+    short_head(INTEGER, 0)
 }
 
 // How many items a container holds.
@@ -155,43 +167,50 @@ pub enum Passed {
     TooDeep,
 }
 
-// Passes over the item at the front of s, in which containers may stand so deep.
-fn pass_item(s: &[u8], allowance: usize) -> Passed
-    ensures { λ r. ⌜ passageOf r ≡ passItem allowance (now (s .entry)) ⌝ }
+// Passes over the array or map at a place, whose head is h.
+fn pass_container(s: &[u8], at: usize, h: Head, allowance: usize) -> Passed
+    requires { ⌜ HeadAt (drop at (now s)) (headRead h) × (arrayKind ≤ h .kind) ⌝ }
+    ensures { λ r. ⌜ passageOf r ≡ passItem allowance (drop at (now (s .entry))) ⌝ }
 {
-    let h = head_of(s);
-    let kind = h.kind;
+    if allowance == 0 {
+        return Passed::TooDeep;
+    }
     let size = h.size;
-    let count = h.count;
+    match pass_items(s, at + size, items_of(h.kind, h.count), allowance - 1) {
+        Passed::Whole(n) => Passed::Whole(size + n),
+        Passed::Cut => Passed::Cut,
+        Passed::TooDeep => Passed::TooDeep,
+    }
+}
+
+// Passes over the item at a place, whose head is h and in which containers may stand so deep.
+fn pass_item(s: &[u8], at: usize, h: Head, allowance: usize) -> Passed
+    requires { ⌜ HeadAt (drop at (now s)) (headRead h) ⌝ }
+    ensures { λ r. ⌜ passageOf r ≡ passItem allowance (drop at (now (s .entry))) ⌝ }
+{
+    let kind = h.kind;
+    let length = h.size + h.count;
     if ARRAY <= kind {
-        if allowance == 0 {
-            return Passed::TooDeep;
-        }
-        let items = items_of(kind, count);
-        return match pass_items(&s[size..], items, allowance - 1) {
-            Passed::Whole(n) => Passed::Whole(size + n),
-            Passed::Cut => Passed::Cut,
-            Passed::TooDeep => Passed::TooDeep,
-        };
+        return pass_container(s, at, h, allowance);
     }
     if kind == UNUSED {
         return Passed::Cut;
     }
-    if size + count <= s.len() {
-        Passed::Whole(size + count)
+    if length <= s.len() - at {
+        Passed::Whole(length)
     } else {
         Passed::Cut
     }
 }
 
-// Passes over count items from the front of s on; stops at the first that is not whole.
-fn pass_items(s: &[u8], count: usize, allowance: usize) -> Passed
-    ensures { λ r. ⌜ passageOf r ≡ passItems (passItem allowance) count (now (s .entry)) ⌝ }
+// Passes over count items from a place on; stops at the first that is not whole.
+fn pass_items(s: &[u8], from: usize, count: usize, allowance: usize) -> Passed
+    ensures { λ r. ⌜ passageOf r ≡ passItems (passItem allowance) count (drop from (now (s .entry))) ⌝ }
 {
-    let mut at: usize = 0;
+    let mut at = from;
     let mut left = count;
     while 0 < left {
-        match pass_item(&s[at..], allowance) {
+        match pass_item(s, at, head_at(s, at), allowance) {
             Passed::Whole(n) => {
                 at += n;
                 left -= 1;
@@ -200,14 +219,14 @@ fn pass_items(s: &[u8], count: usize, allowance: usize) -> Passed
             Passed::TooDeep => return Passed::TooDeep,
         }
     }
-    Passed::Whole(at)
+    Passed::Whole(at - from)
 }
 
 // Passes over the item at the front of s.
 pub fn pass_over(s: &[u8]) -> Passed
     ensures { λ r. ⌜ passageOf r ≡ passOver (now (s .entry)) ⌝ }
 {
-    pass_item(s, ALLOWANCE)
+    pass_item(s, 0, head_at(s, 0), ALLOWANCE)
 }
 
 // Whether a head is of this kind, and all the bytes that it asks for lie within len.
@@ -232,7 +251,7 @@ pub enum Content {
 fn content_at(kind: usize, s: &[u8]) -> Content
     ensures { λ r. ⌜ partOf r ≡ contentAt kind (now (s .entry)) ⌝ }
 {
-    let h = head_of(s);
+    let h = head_at(s, 0);
     if is_whole(kind, h, s.len()) {
         Content::Part {
             start: h.size,
@@ -266,7 +285,7 @@ pub enum Boolean {
 pub fn read_boolean(s: &[u8]) -> Boolean
     ensures { λ r. ⌜ booleanOf r ≡ readBoolean (now (s .entry)) ⌝ }
 {
-    let h = head_of(s);
+    let h = head_at(s, 0);
     if is_whole(BOOLEAN, h, s.len()) {
         Boolean::Read(s[0] == 0xc3)
     } else {
@@ -329,7 +348,7 @@ fn integer_of(b: u8, width: usize, n: u64) -> Integer
 pub fn read_integer(s: &[u8]) -> Integer
     ensures { λ r. ⌜ integerRead r ≡ readInteger (now (s .entry)) ⌝ }
 {
-    let h = head_of(s);
+    let h = head_at(s, 0);
     if is_whole(INTEGER, h, s.len()) {
         let size = h.size;
         let count = h.count;
@@ -353,7 +372,7 @@ pub enum Items {
 fn count_at(kind: usize, s: &[u8]) -> Items
     ensures { λ r. ⌜ countedOf r ≡ countAt kind (now (s .entry)) ⌝ }
 {
-    let h = head_of(s);
+    let h = head_at(s, 0);
     if h.kind == kind {
         Items::Counted {
             count: h.count,
@@ -378,76 +397,170 @@ pub fn read_map(s: &[u8]) -> Items
     count_at(MAP, s)
 }
 
-// Whether the text key stands at the front of s, in any width.
-fn key_at(key: &[u8], s: &[u8]) -> bool
-    ensures { λ r. ⌜ r ≡ keyAt (now (key .entry)) (now (s .entry)) ⌝ }
+// ---- the pairs of a map
+
+// How deep containers may stand in an outermost map.
+const INSIDE: usize = 15;
+
+// The code of every key that is no text of at most 3 bytes.
+const OTHER: u64 = 0xffff_ffff;
+
+// The code of the key at a place, whose head is h: of a text of at most 3 bytes these bytes, with a 1
+// before them, as a number.
+fn code_at(s: &[u8], at: usize, h: Head) -> u64
+    requires { ⌜ HeadAt (drop at (now s)) (headRead h) ⌝ }
+    ensures { λ r. ⌜ r ≡ codeAt (drop at (now (s .entry))) ⌝ }
 {
-    match read_text(s) {
-        Content::Part { start, len } => {
-            slices::same_bytes(slices::part(s, Place { start, len }), key)
+    let count = h.count;
+    let size = h.size;
+    if h.kind != TEXT {
+        return OTHER;
+    }
+    if 3 < count {
+        return OTHER;
+    }
+    match endian::read_big(s, at + size, count) {
+        Number::Read(n) => (1 << (8 * count)) + n,
+        Number::Missing => OTHER,
+    }
+}
+
+// A pair of an outermost map, passed over.
+pub enum Pair {
+    // The code of its key, where its value stands, and where the next pair does.
+    Whole {
+        code: u64,
+        value: usize,
+        next: usize,
+    },
+    // The first of its two items that is not whole is cut.
+    Cut,
+    TooDeep,
+}
+
+// The pair at a place of s. The code of a key that is a text of at most 3 bytes is these bytes, with a
+// 1 before them, as a number; all other keys have one code.
+pub fn pair_at(s: &[u8], at: usize) -> Pair
+    ensures { λ r. ⌜ pairOf r ≡ pairAt (now (s .entry)) at ⌝ }
+{
+    let h = head_at(s, at);
+    match pass_item(s, at, h, INSIDE) {
+        Passed::Whole(k) => {
+            let value = at + k;
+            match pass_item(s, value, head_at(s, value), INSIDE) {
+                Passed::Whole(n) => Pair::Whole {
+                    code: code_at(s, at, h),
+                    value,
+                    next: value + n,
+                },
+                Passed::Cut => Pair::Cut,
+                Passed::TooDeep => Pair::TooDeep,
+            }
         }
-        Content::Missing => false,
+        Passed::Cut => Pair::Cut,
+        Passed::TooDeep => Pair::TooDeep,
     }
 }
 
-// Where the value of a key stands.
-pub enum Found {
-    At(usize),
-    // The map has no such key.
-    Missing,
-    // No map stands there, or its pairs are not whole.
-    Broken,
-}
-
-// The place of a value whose key is there, or else the best so far.
-fn chosen(there: bool, place: usize, best: Found) -> Found
-    ensures { λ r. ⌜ placeOf r ≡ cond there (found place) (placeOf best) ⌝ }
+// Where a code first stands among the keys; 8 where it does not.
+fn position(keys: [u64; 8], code: u64) -> usize
+    ensures { λ r. ⌜ r ≡ position keys code ⌝ }
 {
-    if !there {
-        return best;
+    let mut j = 0;
+    while j < 8 {
+        if keys[j] == code {
+            return j;
+        }
+        j += 1;
     }
-    match best {
-        // Of a repeated key the last counts.
-        Found::At(_) => Found::At(place),
-        Found::Missing => Found::At(place),
-        Found::Broken => Found::At(place),
+    8
+}
+
+// The values of the keys asked for, among the pairs passed so far: where the last of each stands, 0
+// where there is none; and whether there are several.
+struct Values {
+    places: [usize; 8],
+    repeated: [bool; 8],
+}
+
+// The values with one more, of the j-th key, at a place. 8 stands for every key not asked for.
+fn with_value(values: Values, j: usize, place: usize) -> Values
+    requires { ⌜ Sized values ⌝ }
+    ensures { λ r. ⌜ WithValue values j place r ⌝ }
+{
+    let mut places = values.places;
+    let mut repeated = values.repeated;
+    if 8 <= j {
+        return values;
+    }
+    // Of a repeated key the last counts.
+    repeated[j] = repeated[j] | (0 < places[j]);
+    places[j] = place;
+    Values { places, repeated }
+}
+
+// An item passed over; whether it is a whole map; and if so, of each key asked for where its last value
+// stands, 0 where the key is missing, and whether it is repeated.
+pub struct Pairs {
+    pub passed: Passed,
+    pub map: bool,
+    pub places: [usize; 8],
+    pub repeated: [bool; 8],
+}
+
+// An item that is no whole map.
+fn no_pairs(passed: Passed) -> Pairs
+    ensures { λ r. ⌜ NoPairs (passageOf passed) r ⌝ }
+{
+    Pairs {
+        passed,
+        map: false,
+        places: [0; 8],
+        repeated: [false; 8],
     }
 }
 
-// The last value of key among count pairs, the first of which stands at from.
-fn last_value(s: &[u8], key: &[u8], count: usize, from: usize) -> Found
-    requires { ⌜ from ≤ length (now s) ⌝ }
-    ensures { λ r. ⌜ placeOf r ≡ lastWhere passOver (keyAt (now (key .entry))) count from (drop from (now (s .entry))) missing ⌝ }
+// The pairs of a map, count of them from a place on.
+fn pairs_from(s: &[u8], from: usize, count: usize, keys: [u64; 8]) -> Pairs
+    requires { ⌜ 0 < from ⌝ }
+    ensures { λ r. ⌜ PairsFrom (now (s .entry)) keys from count r ⌝ }
 {
     let mut at = from;
     let mut pairs = count;
-    let mut best = Found::Missing;
+    let mut values = Values {
+        places: [0; 8],
+        repeated: [false; 8],
+    };
     while 0 < pairs {
-        let Passed::Whole(k) = pass_over(&s[at..]) else {
-            return Found::Broken;
-        };
-        let value = at + k;
-        let Passed::Whole(m) = pass_over(&s[value..]) else {
-            return Found::Broken;
-        };
-        best = chosen(key_at(key, &s[at..]), value, best);
-        at = value + m;
-        pairs -= 1;
+        match pair_at(s, at) {
+            Pair::Whole { code, value, next } => {
+                values = with_value(values, position(keys, code), value);
+                at = next;
+                pairs -= 1;
+            }
+            Pair::Cut => return no_pairs(Passed::Cut),
+            Pair::TooDeep => return no_pairs(Passed::TooDeep),
+        }
     }
-    best
+    let places = values.places;
+    let repeated = values.repeated;
+    Pairs {
+        passed: Passed::Whole(at),
+        map: true,
+        places,
+        repeated,
+    }
 }
 
-// The last value of a text key in the map at the front of s. Keys are compared as bytes, in every
-// width of text; keys of other types, and all values, are passed over.
-pub fn map_value(s: &[u8], key: &[u8]) -> Found
-    ensures { λ r. ⌜ placeOf r ≡ lastValue (now (key .entry)) (now (s .entry)) ⌝ }
+// The item at the front of s passed over once, and the values of the keys with these codes in it.
+pub fn read_pairs(s: &[u8], keys: [u64; 8]) -> Pairs
+    ensures { λ r. ⌜ PairsRead (now (s .entry)) keys r ⌝ }
 {
-    let h = head_of(s);
+    let h = head_at(s, 0);
     if h.kind == MAP {
         let count = h.count;
         let from = h.size;
-        last_value(s, key, count, from)
-    } else {
-        Found::Broken
+        return pairs_from(s, from, count, keys);
     }
+    no_pairs(pass_item(s, 0, h, ALLOWANCE))
 }

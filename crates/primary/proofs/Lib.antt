@@ -1,3 +1,4 @@
 pub mod Places
 pub mod Readings
 pub mod Composites
+pub mod Keys

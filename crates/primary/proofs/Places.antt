@@ -13,8 +13,9 @@ use Rattle.slices.specs.declared.Place.{Place}
 use Rattle.msgpack.specs.Formats.{textKind}
 use Rattle.msgpack.specs.Readers.{part, readText}
 use Rattle.msgpack.specs.ReaderLaws.{part-inside}
-use Rattle.msgpack.specs.Lookup.{ValuePlace, found, lastValue, atPlace, under}
-use Rattle.msgpack.specs.LookupLaws.{value-inside}
+use Rattle.msgpack.specs.Lookup.{lastValue, atPlace, under}
+use Rattle.msgpack.specs.Pairs.{placeTold}
+use Rattle.msgpack.specs.PairLaws.{told-inside}
 use Rattle.primary.specs.Parts.{textAt, textUnder}
 use Rattle.primary.specs.Answers.{AllInside, TextInside, TextsInside}
 use Rattle.primary.specs.declared.Texts.{Texts}
@@ -59,16 +60,12 @@ module _ (s : List ℕ) (at : ℕ) (within : at ≤ length s) where
   unfolding textAt
   text-missing e = rw (ap readText (sym (part-to-end at s)) ∙ sym e)
 
-  -- ---- a value
+-- ---- the text under a key, by the place told of it
 
-  module _ (key : List ℕ) where
-    pub text-under-is : (p : ValuePlace) → p ≡ lastValue key rest → atPlace none (λ n. textAt (drop n (drop at s))) p ≡ textUnder key (drop at s)
-    unfolding textUnder under
-    text-under-is p e = rw (e, part-to-end at s)
+pub text-told : (key m : List ℕ) (p : ℕ) → lastValue key m ≡ placeTold p → atPlace none (λ n. textAt (drop n m)) (placeTold p) ≡ textUnder key m
+unfolding textUnder under
+text-told key m p e = rw e
 
-    module _ (n : ℕ) (e : found n ≡ lastValue key rest) where
-      pub value-within : at + n ≤ length s
-      value-within = omega (arith, value-inside key (drop at s) n (ap (lastValue key) (sym (part-to-end at s)) ∙ sym e), length-drop at s)
-
-      pub text-under-found : textAt (drop (at + n) s) ≡ textUnder key (drop at s)
-      text-under-found = ap textAt (sym (drop-drop n at s)) ∙ text-under-is (found n) e
+-- inside the part
+pub told-within : (s : List ℕ) (at : ℕ) → at ≤ length s → (key : List ℕ) (p : ℕ) → lastValue key (drop at s) ≡ placeTold p → at + p ≤ length s
+told-within s at within key p e = omega (arith, told-inside key (drop at s) p e, length-drop at s)

@@ -1,21 +1,22 @@
 -- The definitions of the readings, from the answers that their steps gave, and the places of their answers.
-use Prim.Native.Nat.{ℕ, _≤_}
+use Prim.Native.Nat.{ℕ}
 use mathlib.Core.Bool.{Bool, true, false, cond}
 use mathlib.Core.List.{List}
 use mathlib.Core.Option.{Option, none, some}
-use mathlib.Core.Path.{_≡_, sym, subst}
-use native.Mathlib.Omega.{arith}
+use mathlib.Core.Path.{_≡_, refl, ap, subst, _∙_}
+use borrow.Author.Tests.{eqb-true}
 use lib.ListN.{length, drop}
 use Rattle.slices.specs.Logic.{absurd-numbers}
 use Rattle.slices.specs.Places.{Inside}
 use Rattle.slices.specs.declared.Place.{Place}
 use Rattle.refusals.specs.Answers.{Answer, refused, result}
-use Rattle.msgpack.specs.Lookup.{ValuePlace, found, lastValue, atPlace, under}
-use Rattle.msgpack.specs.LookupLaws.{value-inside}
+use Rattle.msgpack.specs.Items.{Passage, whole, cut, tooDeep, passOver}
+use Rattle.msgpack.specs.Lookup.{ValuePlace, broken, lastValue, atPlace, under}
+use Rattle.msgpack.specs.Pairs.{placeTold}
 use Rattle.msgpack.specs.Readers.{readBoolean}
 use Rattle.identifier.specs.Ulid.{isUlid}
 use Rattle.identifier.specs.Identity.{Identity, isValid, identityOf}
-use Rattle.primary.specs.Parts.{fills, ifFills, textAt, textUnder, textsBy, textsUnder, ulidKey, bucketKey, objectKey, identifierKey, deletedKey, deleteIdKey, deletedUnder, valid, ulidOf, shapeOf, shapeAt, shapeUnder, blockBy, block, versionBy, version, versionDeleteBy, versionDelete}
+use Rattle.primary.specs.Parts.{isOfLength, fills, ifFills, textAt, textUnder, textsBy, textsUnder, ulidKey, bucketKey, objectKey, identifierKey, deletedKey, deleteIdKey, deletedUnder, valid, ulidOf, shapeOf, shapeAt, shapeUnder, blockBy, block, versionBy, version, versionDeleteBy, versionDelete}
 use Rattle.primary.specs.Answers.{AllInside, BlockInside, VersionInside, DeleteInside}
 use Rattle.primary.specs.declared.Texts.{Texts}
 use Rattle.primary.specs.declared.Fault.{Fault}
@@ -55,30 +56,44 @@ valid-is i t e = rw e
 
 -- ---- the types
 
--- the place of a value, so that what follows can be lent
-pub value-place : (key s : List ℕ) (n : ℕ) → found n ≡ lastValue key s → n ≤ length s
-value-place key s n e = omega (arith, value-inside key s n (sym e))
-
 module _ (s : List ℕ) where
   pub texts-are : (u b o : Option (List ℕ)) → u ≡ textUnder ulidKey s → b ≡ textUnder bucketKey s → o ≡ textUnder objectKey s → textsBy u b o ≡ textsUnder s
   unfolding textsUnder
   texts-are u b o e f g = rw (e, f, g)
 
+  pub no-texts-are : lastValue ulidKey s ≡ broken → none ≡ textsUnder s
+  unfolding textsUnder textUnder under
+  no-texts-are e = rw e
+
   pub shape-is : (t : Option (List ℕ)) (i : Option Identity) → t ≡ textAt s → i ≡ textsUnder s → blockBy (shapeOf t i) ≡ blockBy (shapeAt s)
   unfolding shapeAt
   shape-is t i e f = rw (e, f)
 
-  pub deleted-is : (p : ValuePlace) → p ≡ lastValue deletedKey s → atPlace (some false) (λ n. readBoolean (drop n s)) p ≡ deletedUnder s
+  pub flag-told : (p : ℕ) → lastValue deletedKey s ≡ placeTold p → atPlace (some false) (λ n. readBoolean (drop n s)) (placeTold p) ≡ deletedUnder s
   unfolding deletedUnder under
-  deleted-is p e = rw e
+  flag-told p e = rw e
 
 -- ---- the parts
 
-pub cut : {A : Type 0} (s : List ℕ) (next : Answer A) → fills s ≡ false → refused 16 ≡ ifFills s next
-cut s next w = rw w
+-- by what passing over gave
+pub fills-is : (s : List ℕ) (p : Passage) (t : Bool) → p ≡ passOver s → t ≡ isOfLength (length s) p → fills s ≡ t
+unfolding fills
+fills-is s p t e f = rw (← e, f)
+
+pub fills-whole : (s : List ℕ) → fills s ≡ true → passOver s ≡ whole (length s)
+unfolding fills
+fills-whole s e = by (passOver s) refl e
+  where
+    by : (p : Passage) → passOver s ≡ p → isOfLength (length s) p ≡ true → passOver s ≡ whole (length s)
+    by (whole m) q f = q ∙ ap whole (eqb-true m (length s) f)
+    by cut q f = absurd-numbers (cc)
+    by tooDeep q f = absurd-numbers (cc)
+
+pub not-filled : {A : Type 0} (s : List ℕ) (next : Answer A) → fills s ≡ false → refused 16 ≡ ifFills s next
+not-filled s next w = rw w
 
 module _ (s : List ℕ) (w : fills s ≡ true) where
-  pub block-is : (p : ValuePlace) → p ≡ lastValue identifierKey s → blockBy (atPlace none (λ n. shapeAt (drop n s)) p) ≡ block s
+  pub block-is : (p : ValuePlace) → lastValue identifierKey s ≡ p → blockBy (atPlace none (λ n. shapeAt (drop n s)) p) ≡ block s
   unfolding block shapeUnder under
   block-is p e = rw (w, e)
 

@@ -4,11 +4,14 @@ use mathlib.Core.Bool.{Bool}
 use mathlib.Core.List.{List}
 use mathlib.Core.Option.{Option, none, some}
 use mathlib.Core.Path.{_≡_}
+use lib.ListN.{getD}
 use Rattle.slices.specs.Places.{partAt, Inside}
 use Rattle.slices.specs.declared.Place.{Place}
 use Rattle.refusals.specs.Answers.{Answer, refused, result}
+use Rattle.msgpack.specs.Lookup.{lastValue}
+use Rattle.msgpack.specs.Pairs.{placeTold}
 use Rattle.identifier.specs.Identity.{Identity, identity}
-use Rattle.primary.specs.Parts.{Version, VersionDelete}
+use Rattle.primary.specs.Parts.{ulidKey, bucketKey, objectKey, Version, VersionDelete}
 use Rattle.primary.specs.declared.Texts.{Texts}
 use Rattle.primary.specs.declared.TextRead.{TextRead}
 use Rattle.primary.specs.declared.TextRead.the-variants as text-answer
@@ -76,3 +79,11 @@ pub record VersionInside (s : List ℕ) (r : VersionRead) : Type 0 where
 pub record DeleteInside (s : List ℕ) (r : DeleteRead) : Type 0 where
   pub identifier : (t : Texts) (d : Place) → r ≡ delete-answer.Read t d → AllInside s t
   pub deleteId : (t : Texts) (d : Place) → r ≡ delete-answer.Read t d → Inside s d
+
+-- ---- what the code knows on the way
+
+-- the places of the values of an identifier's keys in the map m
+pub record IdentifierAt (m places : List ℕ) : Type 0 where
+  pub ulid : lastValue ulidKey m ≡ placeTold (getD places 0 0)
+  pub bucket : lastValue bucketKey m ≡ placeTold (getD places 1 0)
+  pub object : lastValue objectKey m ≡ placeTold (getD places 2 0)

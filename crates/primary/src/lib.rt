@@ -1,20 +1,24 @@
 // The primary parts of blocks, versions and version deletes. Answers tell where the texts stand in the
 // part; nothing is copied.
+ghost use mathlib.Core.Bool.{false};
+ghost use mathlib.Core.Option.{none, some};
 ghost use mathlib.Core.Path.{_≡_};
-ghost use Prim.Native.Nat.{_≤_};
+ghost use Prim.Native.Nat.{_+_, _≤_};
 ghost use lib.ListN.{length, drop};
 ghost use Rattle.slices.specs.Places.{partAt, Inside};
 ghost use Rattle.refusals.specs.Answers.{result, orRefused};
-ghost use Rattle.msgpack.specs.Readers.{booleanOf};
+ghost use Rattle.msgpack.specs.Items.{passageOf, WholeItem};
+ghost use Rattle.msgpack.specs.Readers.{booleanOf, readBoolean};
+ghost use Rattle.msgpack.specs.Lookup.{atPlace};
+ghost use Rattle.msgpack.specs.Pairs.{placeTold};
 ghost use Rattle.identifier.specs.Identity.{isValid};
 ghost use Rattle.identifier.specs.Ulid.{isUlid};
 ghost use Rattle.identifier.specs.Composite.{identityIn};
-ghost use Rattle.primary.specs.Parts.{fills, textAt, textUnder, textsUnder, deletedUnder, shapeAt, valid, blockBy, block, version, versionDelete};
-ghost use Rattle.primary.specs.Answers.{numberOf, textsIn, textOf, textsOf, blockOf, versionOf, versionDeleteOf, AllInside, TextInside, TextsInside, BlockInside, VersionInside, DeleteInside};
+ghost use Rattle.primary.specs.Parts.{isOfLength, textAt, textsUnder, shapeAt, valid, blockBy, block, version, versionDelete};
+ghost use Rattle.primary.specs.Answers.{numberOf, IdentifierAt, textsIn, textOf, textsOf, blockOf, versionOf, versionDeleteOf, AllInside, TextInside, TextsInside, BlockInside, VersionInside, DeleteInside};
 use identifier::Split;
 use msgpack::Boolean;
 use msgpack::Content;
-use msgpack::Found;
 use msgpack::Passed;
 use slices::Place;
 
@@ -25,14 +29,20 @@ pub const OBJECT: [u8; 1] = *b"o";
 
 pub const ULID: [u8; 1] = *b"v";
 
-// Of a block.
-const IDENTIFIER: [u8; 1] = *b"I";
-
-// Of a version: whether it is a delete marker.
-const DELETED: [u8; 1] = *b"d";
-
 // Of a version delete: its own identifier. Provisional in document 001, which prints it so.
 pub const DELETE_ID: [u8; 3] = *b"???";
+
+// The codes of the keys that are asked for. Of an identifier's map: `v`, `b` and `o`.
+const IDENTIFIER_KEYS: [u64; 8] = [0x176, 0x162, 0x16f, 0, 0, 0, 0, 0];
+
+// Of a block: `I`.
+const BLOCK_KEYS: [u64; 8] = [0x149, 0, 0, 0, 0, 0, 0, 0];
+
+// Of a version: those of an identifier, and `d`, whether it is a delete marker.
+const VERSION_KEYS: [u64; 8] = [0x176, 0x162, 0x16f, 0x164, 0, 0, 0, 0];
+
+// Of a version delete: those of an identifier, and `???`.
+const DELETE_KEYS: [u64; 8] = [0x176, 0x162, 0x16f, 0x13f_3f3f, 0, 0, 0, 0];
 
 // Refusals 16 to 18 of document 01.
 pub enum Fault {
@@ -86,12 +96,12 @@ enum TextsRead {
     Missing,
 }
 
-// Whether one whole item fills the part.
-fn fills(part: &[u8]) -> bool
-    ensures { λ r. ⌜ r ≡ fills (now (part .entry)) ⌝ }
+// Whether one whole item fills a part of so many bytes.
+fn fills(passed: Passed, len: usize) -> bool
+    ensures { λ r. ⌜ r ≡ isOfLength len (passageOf passed) ⌝ }
 {
-    match msgpack::pass_over(part) {
-        Passed::Whole(n) => n == part.len(),
+    match passed {
+        Passed::Whole(n) => n == len,
         Passed::Cut => false,
         Passed::TooDeep => false,
     }
@@ -112,32 +122,31 @@ fn text_at(part: &[u8], at: usize) -> TextRead
     }
 }
 
-// The text under a key of the map at a place.
-fn text_under(part: &[u8], at: usize, key: &[u8]) -> TextRead
-    requires { ⌜ at ≤ length (now part) ⌝ }
-    ensures { λ r. ⌜ textOf (now (part .entry)) r ≡ textUnder (now (key .entry)) (drop at (now (part .entry))) ⌝ }
+// The text under a key of the map at a place, by the place told of the key.
+fn text_under(part: &[u8], at: usize, place: usize) -> TextRead
+    requires { ⌜ at + place ≤ length (now part) ⌝ }
+    ensures { λ r. ⌜ textOf (now (part .entry)) r ≡ atPlace none (λ p. textAt (drop p (drop at (now (part .entry))))) (placeTold place) ⌝ }
     ensures inside { λ r. ⌜ TextInside (now (part .entry)) r ⌝ }
 {
-    match msgpack::map_value(&part[at..], key) {
-        Found::At(n) => text_at(part, at + n),
-        Found::Missing => TextRead::Missing,
-        Found::Broken => TextRead::Missing,
+    if place == 0 {
+        return TextRead::Missing;
     }
+    text_at(part, at + place)
 }
 
-// The three texts of the identifier map at a place.
-fn texts_under(part: &[u8], at: usize) -> TextsRead
-    requires { ⌜ at ≤ length (now part) ⌝ }
+// The three texts of the identifier map at a place, by the places told of its keys.
+fn texts_under(part: &[u8], at: usize, places: [usize; 8]) -> TextsRead
+    requires { ⌜ (at ≤ length (now part)) × IdentifierAt (drop at (now part)) places ⌝ }
     ensures { λ r. ⌜ textsOf (now (part .entry)) r ≡ textsUnder (drop at (now (part .entry))) ⌝ }
     ensures inside { λ r. ⌜ TextsInside (now (part .entry)) r ⌝ }
 {
-    let TextRead::At(ulid) = text_under(part, at, &ULID) else {
+    let TextRead::At(ulid) = text_under(part, at, places[0]) else {
         return TextsRead::Missing;
     };
-    let TextRead::At(bucket) = text_under(part, at, &BUCKET) else {
+    let TextRead::At(bucket) = text_under(part, at, places[1]) else {
         return TextsRead::Missing;
     };
-    let TextRead::At(object) = text_under(part, at, &OBJECT) else {
+    let TextRead::At(object) = text_under(part, at, places[2]) else {
         return TextsRead::Missing;
     };
     TextsRead::At(Texts {
@@ -145,6 +154,20 @@ fn texts_under(part: &[u8], at: usize) -> TextsRead
         bucket,
         object,
     })
+}
+
+// The three texts of the identifier map at a place.
+fn texts_at(part: &[u8], at: usize) -> TextsRead
+    requires { ⌜ (at ≤ length (now part)) × WholeItem (drop at (now part)) ⌝ }
+    ensures { λ r. ⌜ textsOf (now (part .entry)) r ≡ textsUnder (drop at (now (part .entry))) ⌝ }
+    ensures inside { λ r. ⌜ TextsInside (now (part .entry)) r ⌝ }
+{
+    let pairs = msgpack::read_pairs(&part[at..], IDENTIFIER_KEYS);
+    if !pairs.map {
+        return TextsRead::Missing;
+    }
+    let places = pairs.places;
+    texts_under(part, at, places)
 }
 
 // Whether the three texts keep the rules.
@@ -206,13 +229,13 @@ fn from_texts(part: &[u8], t: Texts) -> BlockRead
 
 // The identifier at a place, in either shape.
 fn identifier_at(part: &[u8], at: usize) -> BlockRead
-    requires { ⌜ at ≤ length (now part) ⌝ }
+    requires { ⌜ (at ≤ length (now part)) × WholeItem (drop at (now part)) ⌝ }
     ensures { λ r. ⌜ blockOf (now (part .entry)) r ≡ blockBy (shapeAt (drop at (now (part .entry)))) ⌝ }
     ensures inside { λ r. ⌜ BlockInside (now (part .entry)) r ⌝ }
 {
     match text_at(part, at) {
         TextRead::At(text) => from_composite(part, text),
-        TextRead::Missing => match texts_under(part, at) {
+        TextRead::Missing => match texts_at(part, at) {
             TextsRead::At(t) => from_texts(part, t),
             TextsRead::Missing => BlockRead::Fault(Fault::NotAsDescribed),
         },
@@ -224,25 +247,31 @@ pub fn read_block(part: &[u8]) -> BlockRead
     ensures { λ r. ⌜ blockOf (now (part .entry)) r ≡ block (now (part .entry)) ⌝ }
     ensures inside { λ r. ⌜ BlockInside (now (part .entry)) r ⌝ }
 {
-    if !fills(part) {
+    let pairs = msgpack::read_pairs(part, BLOCK_KEYS);
+    let passed = pairs.passed;
+    if !fills(passed, part.len()) {
         return BlockRead::Fault(Fault::NotWhole);
     }
-    match msgpack::map_value(part, &IDENTIFIER) {
-        Found::At(at) => identifier_at(part, at),
-        Found::Missing => BlockRead::Fault(Fault::NotAsDescribed),
-        Found::Broken => BlockRead::Fault(Fault::NotAsDescribed),
+    if !pairs.map {
+        return BlockRead::Fault(Fault::NotAsDescribed);
     }
+    let places = pairs.places;
+    let at = places[0];
+    if at == 0 {
+        return BlockRead::Fault(Fault::NotAsDescribed);
+    }
+    identifier_at(part, at)
 }
 
-// The delete flag of a version's map.
-fn deleted_under(part: &[u8]) -> Boolean
-    ensures { λ r. ⌜ booleanOf r ≡ deletedUnder (now (part .entry)) ⌝ }
+// The delete flag of a version's map, by the place told of its key; absent means false.
+fn deleted_under(part: &[u8], place: usize) -> Boolean
+    requires { ⌜ place ≤ length (now part) ⌝ }
+    ensures { λ r. ⌜ booleanOf r ≡ atPlace (some false) (λ p. readBoolean (drop p (now (part .entry)))) (placeTold place) ⌝ }
 {
-    match msgpack::map_value(part, &DELETED) {
-        Found::At(at) => msgpack::read_boolean(&part[at..]),
-        Found::Missing => Boolean::Read(false),
-        Found::Broken => Boolean::Missing,
+    if place == 0 {
+        return Boolean::Read(false);
     }
+    msgpack::read_boolean(&part[place..])
 }
 
 // The primary part of a version.
@@ -250,13 +279,19 @@ pub fn read_version(part: &[u8]) -> VersionRead
     ensures { λ r. ⌜ versionOf (now (part .entry)) r ≡ version (now (part .entry)) ⌝ }
     ensures inside { λ r. ⌜ VersionInside (now (part .entry)) r ⌝ }
 {
-    if !fills(part) {
+    let pairs = msgpack::read_pairs(part, VERSION_KEYS);
+    let passed = pairs.passed;
+    if !fills(passed, part.len()) {
         return VersionRead::Fault(Fault::NotWhole);
     }
-    let TextsRead::At(t) = texts_under(part, 0) else {
+    if !pairs.map {
+        return VersionRead::Fault(Fault::NotAsDescribed);
+    }
+    let places = pairs.places;
+    let TextsRead::At(t) = texts_under(part, 0, places) else {
         return VersionRead::Fault(Fault::NotAsDescribed);
     };
-    let Boolean::Read(deleted) = deleted_under(part) else {
+    let Boolean::Read(deleted) = deleted_under(part, places[3]) else {
         return VersionRead::Fault(Fault::NotAsDescribed);
     };
     if is_valid(part, t) {
@@ -271,13 +306,19 @@ pub fn read_delete(part: &[u8]) -> DeleteRead
     ensures { λ r. ⌜ versionDeleteOf (now (part .entry)) r ≡ versionDelete (now (part .entry)) ⌝ }
     ensures inside { λ r. ⌜ DeleteInside (now (part .entry)) r ⌝ }
 {
-    if !fills(part) {
+    let pairs = msgpack::read_pairs(part, DELETE_KEYS);
+    let passed = pairs.passed;
+    if !fills(passed, part.len()) {
         return DeleteRead::Fault(Fault::NotWhole);
     }
-    let TextsRead::At(t) = texts_under(part, 0) else {
+    if !pairs.map {
+        return DeleteRead::Fault(Fault::NotAsDescribed);
+    }
+    let places = pairs.places;
+    let TextsRead::At(t) = texts_under(part, 0, places) else {
         return DeleteRead::Fault(Fault::NotAsDescribed);
     };
-    let TextRead::At(id) = text_under(part, 0, &DELETE_ID) else {
+    let TextRead::At(id) = text_under(part, 0, places[3]) else {
         return DeleteRead::Fault(Fault::NotAsDescribed);
     };
     if !is_valid(part, t) {

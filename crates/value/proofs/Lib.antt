@@ -1,1 +1,2 @@
 mod Lookups
+mod Keys

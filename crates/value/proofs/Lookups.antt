@@ -1,27 +1,40 @@
--- What the answer of a lookup says of the value under a key.
-use Prim.Native.Nat.{ℕ, _<_}
+-- What stands under a key of a map, by the place told of it.
+use Prim.Native.Nat.{ℕ, zero, suc}
 use mathlib.Core.List.{List}
 use mathlib.Core.Option.{Option, none}
-use mathlib.Core.Path.{_≡_, sym, ap, _∙_}
-use lib.ListN.{length}
-use Rattle.msgpack.specs.Lookup.{placeOf, lastValue, under}
-use Rattle.msgpack.specs.LookupLaws.{value-inside}
-use Rattle.msgpack.specs.declared.Found.{Found}
-use Rattle.msgpack.specs.declared.Found.the-variants.{At, Missing, Broken}
+use mathlib.Core.Path.{_≡_, refl}
+use native.Mathlib.Omega.{arith}
+use borrow.Author.Tests.{lt-ltb}
+use lib.Dec.{ltb}
+use lib.ListN.{drop}
+use Rattle.msgpack.specs.Lookup.{broken, lastValue, atPlace, under}
+use Rattle.msgpack.specs.Pairs.{placeTold}
+use Rattle.msgpack.specs.Readers.{readBinary}
+use Rattle.value.specs.Fields.{readNatural, naturalUnder, shifted, bytesUnder, isFound, isThere}
 
-module _ (key m : List ℕ) (r : Found) (is : placeOf r ≡ lastValue key m) where
-  pub found-inside : (p : ℕ) → r ≡ At p → p < length m
-  found-inside p e = value-inside key m p (sym is ∙ ap placeOf e)
+is-found : (p : ℕ) → isFound (placeTold p) ≡ ltb 0 p
+is-found zero = refl
+is-found (suc p) = rw (lt-ltb 0 (suc p) (omega arith))
 
-  module _ {A : Type 0} (absent : Option A) (read : ℕ → Option A) where
-    pub under-found : (p : ℕ) → r ≡ At p → under key m absent read ≡ read p
-    unfolding under
-    under-found p e = rw (sym is ∙ ap placeOf e)
+module _ (key m : List ℕ) (p : ℕ) (e : lastValue key m ≡ placeTold p) where
+  pub natural-told : (absent : Option ℕ) → naturalUnder key m absent ≡ atPlace absent (λ k. readNatural (drop k m)) (placeTold p)
+  unfolding naturalUnder under
+  natural-told absent = rw e
 
-    pub under-missing : r ≡ Missing → under key m absent read ≡ absent
-    unfolding under
-    under-missing e = rw (sym is ∙ ap placeOf e)
+  pub bytes-told : bytesUnder key m ≡ atPlace none (λ k. shifted k (readBinary (drop k m))) (placeTold p)
+  unfolding bytesUnder under
+  bytes-told = rw e
 
-    pub under-broken : r ≡ Broken → under key m absent read ≡ none
-    unfolding under
-    under-broken e = rw (sym is ∙ ap placeOf e)
+  pub there-told : isThere key m ≡ ltb 0 p
+  unfolding isThere
+  there-told = rw e (is-found p)
+
+-- where there is no map
+module _ (key m : List ℕ) (e : lastValue key m ≡ broken) where
+  pub no-natural : (absent : Option ℕ) → naturalUnder key m absent ≡ none
+  unfolding naturalUnder under
+  no-natural absent = rw e
+
+  pub no-bytes : bytesUnder key m ≡ none
+  unfolding bytesUnder under
+  no-bytes = rw e

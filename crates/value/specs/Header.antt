@@ -3,14 +3,17 @@ use Prim.Native.Nat.{ℕ}
 use mathlib.Core.Bool.{Bool, true, false, cond, _||_}
 use mathlib.Core.List.{List, [], _∷_}
 use mathlib.Core.Option.{Option, none, some}
+use mathlib.Core.Path.{_≡_}
 use lib.Dec.{leb, eqb}
 use lib.ListN.{length, drop}
 use Rattle.msgpack.specs.Readers.{Counted, readArray}
 use Rattle.msgpack.specs.Readers as msgpack
-use Rattle.msgpack.specs.Lookup.{under, ifThere}
+use Rattle.msgpack.specs.Lookup.{lastValue, under, ifThere}
+use Rattle.msgpack.specs.Pairs.{placeTold}
 use Rattle.value.specs.Fields.{naturalUnder, bytesUnder, isThere}
 use Rattle.value.specs.declared.Part.{Part}
 use Rattle.value.specs.declared.Told.{Told}
+use Rattle.value.specs.declared.HeaderPlaces.{HeaderPlaces}
 use Rattle.value.specs.declared.Described.{Described}
 use Rattle.value.specs.declared.Described.the-variants as described-answer
 
@@ -99,3 +102,13 @@ header limit m = ifThere (alone m) λ t. under secondaryKey m (some t) (λ p. wi
 abbrev pub toldOf : Described → Option Told
 toldOf (described-answer.As t) = some t
 toldOf described-answer.Not = none
+
+-- ---- what the code knows on the way
+
+-- the places of the values of a header's keys
+pub record HeaderAt (m : List ℕ) (p : HeaderPlaces) : Type 0 where
+  pub primary : lastValue primaryKey m ≡ placeTold (p .e)
+  pub secondary : lastValue secondaryKey m ≡ placeTold (p .s)
+  pub compression : lastValue compressionKey m ≡ placeTold (p .c)
+  pub encryption : lastValue encryptionKey m ≡ placeTold (p .z)
+  pub version : lastValue versionKey m ≡ placeTold (p .v)

@@ -1,16 +1,19 @@
 // The value of a record: the header, which is one MessagePack map, and then the secondary part.
+ghost use mathlib.Core.Option.{none};
 ghost use mathlib.Core.Path.{_≡_};
 ghost use Prim.Native.Nat.{_+_, _≤_};
 ghost use lib.ListN.{length, take, drop};
 ghost use Rattle.refusals.specs.Limit.{packLimit};
 ghost use Rattle.endian.specs.Places.{numberOf as numberRead};
+ghost use Rattle.msgpack.specs.Items.{WholeItem};
+ghost use Rattle.msgpack.specs.Lookup.{atPlace};
+ghost use Rattle.msgpack.specs.Pairs.{placeTold};
 ghost use Rattle.msgpack.specs.Readers.{partOf, readBinary};
-ghost use Rattle.value.specs.Fields.{readNatural, naturalUnder, shifted, bytesUnder, isThere};
-ghost use Rattle.value.specs.Header.{alone, withMap, withList, header, toldOf};
+ghost use Rattle.value.specs.Fields.{readNatural, shifted};
+ghost use Rattle.value.specs.Header.{alone, withMap, withList, header, toldOf, HeaderAt};
 ghost use Rattle.value.specs.Reading.{filled, reading, numberOf, answerOf, primaryPart, secondaryPart, IsPart};
 use endian::Number;
 use msgpack::Content;
-use msgpack::Found;
 use msgpack::Integer;
 use msgpack::Items;
 use msgpack::Passed;
@@ -63,7 +66,7 @@ pub enum Reading {
     Refused(Fault),
 }
 
-// ---- what stands under a key of a map
+// ---- what stands under a key of a map, by the place told of it: 0 where the key is missing
 
 // The integer of at least 0 at the front of s.
 fn natural_at(s: &[u8]) -> Number
@@ -76,15 +79,15 @@ fn natural_at(s: &[u8]) -> Number
     }
 }
 
-// The integer of at least 0 under a key; absent, where the map has no such key.
-fn natural_under(map: &[u8], key: &[u8], absent: Number) -> Number
-    ensures { λ r. ⌜ numberRead r ≡ naturalUnder (now (key .entry)) (now (map .entry)) (numberRead absent) ⌝ }
+// The integer of at least 0 under a key; absent, where the key is missing.
+fn natural_under(map: &[u8], place: usize, absent: Number) -> Number
+    requires { ⌜ place ≤ length (now map) ⌝ }
+    ensures { λ r. ⌜ numberRead r ≡ atPlace (numberRead absent) (λ p. readNatural (drop p (now (map .entry)))) (placeTold place) ⌝ }
 {
-    match msgpack::map_value(map, key) {
-        Found::At(p) => natural_at(&map[p..]),
-        Found::Missing => absent,
-        Found::Broken => Number::Missing,
+    if place == 0 {
+        return absent;
     }
+    natural_at(&map[place..])
 }
 
 // The bytes at a place; what is told of them is counted from the front of the map.
@@ -102,28 +105,32 @@ fn bytes_at(map: &[u8], p: usize) -> Content
 }
 
 // The bytes under a key.
-fn bytes_under(map: &[u8], key: &[u8]) -> Content
-    ensures { λ r. ⌜ partOf r ≡ bytesUnder (now (key .entry)) (now (map .entry)) ⌝ }
+fn bytes_under(map: &[u8], place: usize) -> Content
+    requires { ⌜ place ≤ length (now map) ⌝ }
+    ensures { λ r. ⌜ partOf r ≡ atPlace none (λ p. shifted p (readBinary (drop p (now (map .entry))))) (placeTold place) ⌝ }
 {
-    match msgpack::map_value(map, key) {
-        Found::At(p) => bytes_at(map, p),
-        Found::Missing => Content::Missing,
-        Found::Broken => Content::Missing,
+    if place == 0 {
+        return Content::Missing;
     }
-}
-
-// Whether a key is there, with any value.
-fn is_there(map: &[u8], key: &[u8]) -> bool
-    ensures { λ r. ⌜ r ≡ isThere (now (key .entry)) (now (map .entry)) ⌝ }
-{
-    match msgpack::map_value(map, key) {
-        Found::At(_) => true,
-        Found::Missing => false,
-        Found::Broken => false,
-    }
+    bytes_at(map, place)
 }
 
 // ---- the header
+
+// The codes of a header's keys: `e`, `s`, `c`, `z` and `v`.
+const HEADER_KEYS: [u64; 8] = [0x165, 0x173, 0x163, 0x17a, 0x176, 0, 0, 0];
+
+// Where their values stand; 0 where a key is missing.
+struct HeaderPlaces {
+    e: usize,
+    s: usize,
+    c: usize,
+    z: usize,
+    v: usize,
+}
+
+// The codes of the keys of the map in `s`: `l`, `c` and `z`.
+const SECONDARY_KEYS: [u64; 8] = [0x16c, 0x163, 0x17a, 0, 0, 0, 0, 0];
 
 // What a header tells, or that it is not as document 01 describes it.
 enum Described {
@@ -132,19 +139,20 @@ enum Described {
 }
 
 // What the header tells where it lists no secondary part.
-fn alone(map: &[u8]) -> Described
+fn alone(map: &[u8], places: HeaderPlaces) -> Described
+    requires { ⌜ HeaderAt (now map) places ⌝ }
     ensures { λ r. ⌜ toldOf r ≡ alone (now (map .entry)) ⌝ }
 {
-    let Content::Part { start, len } = bytes_under(map, b"e") else {
+    let Content::Part { start, len } = bytes_under(map, places.e) else {
         return Described::Not;
     };
-    let Number::Read(compression) = natural_under(map, b"c", Number::Read(0)) else {
+    let Number::Read(compression) = natural_under(map, places.c, Number::Read(0)) else {
         return Described::Not;
     };
-    let Number::Read(version) = natural_under(map, b"v", Number::Read(0)) else {
+    let Number::Read(version) = natural_under(map, places.v, Number::Read(0)) else {
         return Described::Not;
     };
-    let encrypted = is_there(map, b"z");
+    let encrypted = 0 < places.z;
     Described::As(Told {
         version,
         primary: Part {
@@ -165,22 +173,28 @@ fn alone(map: &[u8]) -> Described
 
 // The same with the secondary part of which the map in `s` tells.
 fn with_map(t: Told, map: &[u8]) -> Described
+    requires { ⌜ WholeItem (now map) ⌝ }
     ensures { λ r. ⌜ toldOf r ≡ withMap packLimit t (now (map .entry)) ⌝ }
 {
     let primary = t.primary;
     let part = t.secondary;
-    let Number::Read(l) = natural_under(map, b"l", Number::Missing) else {
+    let pairs = msgpack::read_pairs(map, SECONDARY_KEYS);
+    if !pairs.map {
+        return Described::Not;
+    }
+    let places = pairs.places;
+    let Number::Read(l) = natural_under(map, places[0], Number::Missing) else {
         return Described::Not;
     };
     let len = l as usize;
     if refusals::PACK_LIMIT < len {
         return Described::Not;
     }
-    let Number::Read(compression) = natural_under(map, b"c", Number::Read(primary.compression))
+    let Number::Read(compression) = natural_under(map, places[1], Number::Read(primary.compression))
     else {
         return Described::Not;
     };
-    let encrypted = is_there(map, b"z") | primary.encrypted;
+    let encrypted = (0 < places[2]) | primary.encrypted;
     Described::As(Told {
         version: t.version,
         primary,
@@ -196,6 +210,7 @@ fn with_map(t: Told, map: &[u8]) -> Described
 
 // The same with the list at the front of s, which is of no item or of one map.
 fn with_list(t: Told, s: &[u8]) -> Described
+    requires { ⌜ WholeItem (now s) ⌝ }
     ensures { λ r. ⌜ toldOf r ≡ withList packLimit t (now (s .entry)) ⌝ }
 {
     match msgpack::read_array(s) {
@@ -213,27 +228,28 @@ fn with_list(t: Told, s: &[u8]) -> Described
 }
 
 // The header, which is a whole map.
-fn header(map: &[u8]) -> Described
+fn header(map: &[u8], places: HeaderPlaces) -> Described
+    requires { ⌜ HeaderAt (now map) places ⌝ }
     ensures { λ r. ⌜ toldOf r ≡ header packLimit (now (map .entry)) ⌝ }
 {
-    let Described::As(t) = alone(map) else {
+    let Described::As(t) = alone(map, places) else {
         return Described::Not;
     };
-    match msgpack::map_value(map, b"s") {
-        Found::At(p) => with_list(t, &map[p..]),
-        Found::Missing => Described::As(t),
-        Found::Broken => Described::Not,
+    let at = places.s;
+    if at == 0 {
+        return Described::As(t);
     }
+    with_list(t, &map[at..])
 }
 
 // ---- the value
 
 // The value by its first n bytes, which are the header.
-fn filled(value: &[u8], n: usize) -> Reading
-    requires { ⌜ n ≤ length (now value) ⌝ }
+fn filled(value: &[u8], n: usize, places: HeaderPlaces) -> Reading
+    requires { ⌜ (n ≤ length (now value)) × HeaderAt (take n (now value)) places ⌝ }
     ensures { λ r. ⌜ answerOf r ≡ filled n (now (value .entry)) (header packLimit (take n (now (value .entry)))) ⌝ }
 {
-    match header(&value[..n]) {
+    match header(&value[..n], places) {
         Described::As(t) => {
             let part = t.secondary;
             if part.len == value.len() - n {
@@ -250,8 +266,26 @@ fn filled(value: &[u8], n: usize) -> Reading
 pub fn read(value: &[u8]) -> Reading
     ensures { λ r. ⌜ answerOf r ≡ reading packLimit (now (value .entry)) ⌝ }
 {
-    match msgpack::pass_over(value) {
-        Passed::Whole(n) => filled(value, n),
+    let pairs = msgpack::read_pairs(value, HEADER_KEYS);
+    let passed = pairs.passed;
+    let places = pairs.places;
+    match passed {
+        Passed::Whole(n) => {
+            if !pairs.map {
+                return Reading::Refused(Fault::Header);
+            }
+            filled(
+                value,
+                n,
+                HeaderPlaces {
+                    e: places[0],
+                    s: places[1],
+                    c: places[2],
+                    z: places[3],
+                    v: places[4],
+                },
+            )
+        }
         Passed::Cut => Reading::Refused(Fault::Cut),
         Passed::TooDeep => Reading::Refused(Fault::TooDeep),
     }

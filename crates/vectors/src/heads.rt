@@ -5,13 +5,13 @@ use crate::show::say_number;
 use libc::STDOUT_FILENO;
 use msgpack_heads::Written;
 
-const TEXT: usize = 9;
+const TEXT: usize = 10;
 
-const BINARY: usize = 10;
+const BINARY: usize = 11;
 
-const ARRAY: usize = 11;
+const ARRAY: usize = 12;
 
-const MAP: usize = 12;
+const MAP: usize = 13;
 
 fn write(kind: usize, out: &mut [u8], at: usize, n: usize) -> Written {
     let count = (n % 4294967296) as u32;

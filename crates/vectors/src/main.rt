@@ -27,11 +27,11 @@ const MAP: usize = 7;
 
 const KEY: usize = 8;
 
-// The key is a field of its own.
-fn look_up(map: &[u8]) {
-    let mut key = io::buffer();
-    let n = read_field(&mut key);
-    show::say_found(msgpack::map_value(map, &key[0..n]));
+const PAIR: usize = 9;
+
+// A key, by its code.
+fn look_up(map: &[u8], code: u64) {
+    show::say_found(msgpack::read_pairs(map, [code, 0, 0, 0, 0, 0, 0, 0]));
 }
 
 fn run_kind(kind: usize, bytes: &[u8]) {
@@ -44,7 +44,8 @@ fn run_kind(kind: usize, bytes: &[u8]) {
         BOOLEAN => show::say_boolean(msgpack::read_boolean(bytes)),
         ARRAY => show::say_items(msgpack::read_array(bytes)),
         MAP => show::say_items(msgpack::read_map(bytes)),
-        KEY => look_up(bytes),
+        KEY => look_up(bytes, read_number() as u64),
+        PAIR => show::say_pair(msgpack::pair_at(bytes, read_number())),
         _ => heads::run(kind),
     }
 }

@@ -1,10 +1,12 @@
-// What is found, printed: numbers behind a letter or a sign. `@` is a place, `l` a length, `n` a count.
+// What is found, printed: numbers behind a letter or a sign. `@` is a place, `l` a length, `n` a count,
+// `k` the code of a key, `2` whether it stands twice.
 use libc::STDOUT_FILENO;
 use msgpack::Boolean;
 use msgpack::Content;
-use msgpack::Found;
 use msgpack::Integer;
 use msgpack::Items;
+use msgpack::Pair;
+use msgpack::Pairs;
 use msgpack::Passed;
 
 pub(crate) fn say(text: &[u8]) {
@@ -69,10 +71,26 @@ pub(crate) fn say_items(i: Items) {
     }
 }
 
-pub(crate) fn say_found(f: Found) {
-    match f {
-        Found::At(n) => say_number(b'@', n),
-        Found::Missing => say_missing(),
-        Found::Broken => say(b" broken"),
+// Of the first key asked for, where its last value is, and whether it stands more than once.
+pub(crate) fn say_found(p: Pairs) {
+    let places = p.places;
+    let repeated = p.repeated;
+    if p.map {
+        say_number(b'@', places[0]);
+        say_number(b'2', repeated[0] as usize);
+    } else {
+        say(b" broken");
+    }
+}
+
+pub(crate) fn say_pair(p: Pair) {
+    match p {
+        Pair::Whole { code, value, next } => {
+            say_number(b'k', code as usize);
+            say_number(b'@', value);
+            say_number(b'@', next);
+        }
+        Pair::Cut => say(b" cut"),
+        Pair::TooDeep => say(b" too deep"),
     }
 }

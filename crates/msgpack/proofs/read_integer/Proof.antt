@@ -17,20 +17,20 @@ use Rattle.msgpack.proofs.read_integer.Tie as tie
 bytes : (c : tie.Then1) → AllBytes (c .before .before .before .before .args .s .now)
 bytes c = record { below = λ k. c .before .before .before .shared-slice-known .given k .fits }
 
-whole-head : (c : tie.Then1) → IsWhole integerKind (headRead (c .before .before .head-of .result)) (length (c .before .before .before .before .args .s .now))
-whole-head c = is-whole integerKind (headRead (c .before .before .head-of .result)) _ (sym (c .before .is-whole .ensures) ∙ c .if1 .taken)
+whole-head : (c : tie.Then1) → IsWhole integerKind (headRead (c .before .before .head-at .result)) (length (c .before .before .before .before .args .s .now))
+whole-head c = is-whole integerKind (headRead (c .before .before .head-at .result)) _ (sym (c .before .is-whole .ensures) ∙ c .if1 .taken)
 
 -- so the number can be read
-within : (c : tie.Then1) → Within (length (c .before .before .before .before .args .s .now)) (c .before .before .head-of .result .size) (c .before .before .head-of .result .count)
+within : (c : tie.Then1) → Within (length (c .before .before .before .before .args .s .now)) (c .before .before .head-at .result .size) (c .before .before .head-at .result .count)
 within c =
-    let is = c .before .before .head-of .ensures .is in
+    let is = c .before .before .head-at .ensures .is in
     record {
       narrow = omega (arith, ap (λ (h : Head). h .count) is, integer-narrow (c .before .before .before .before .args .s .now) (bytes c) (sym (ap (λ (h : Head). h .kind) is) ∙ whole-head c .of-kind));
       inside = whole-head c .inside;
     }
 
-head-of-requires : tie.Need-head-of-requires
-head-of-requires c κs = search needs
+head-at-requires : tie.Need-head-at-requires
+head-at-requires c κs = search needs
 
 is-whole-requires : tie.Need-is-whole-requires
 is-whole-requires c κs = search needs
@@ -44,10 +44,10 @@ enum-known-n c = search needs
 shared-slice-read-integer-of : tie.Need-shared-slice-read-integer-of
 shared-slice-read-integer-of c =
     let t = c .before .before .before .before .before in
-    has-byte (t .before .before .before .before .args .s .now) (rw (← t .before .before .head-of .ensures .is, whole-head t .of-kind) (omega arith))
+    has-byte (t .before .before .before .before .args .s .now) (rw (← t .before .before .head-at .ensures .is, whole-head t .of-kind) (omega arith))
 
 -- the number that was read
-number : (c : tie.After-known-told) → c .before .n .given .0 .0 ≡ big (take (c .before .before .before .before .before .before .head-of .result .count) (drop (c .before .before .before .before .before .before .head-of .result .size) (c .before .before .before .before .before .before .before .before .args .s .now)))
+number : (c : tie.After-known-told) → c .before .n .given .0 .0 ≡ big (take (c .before .before .before .before .before .before .head-at .result .count) (drop (c .before .before .before .before .before .before .head-at .result .size) (c .before .before .before .before .before .before .before .before .args .s .now)))
 number c = read-number big _ _ _ (within (c .before .before .before .before)) _ _ (c .before .before .before .read-big .ensures) (c .before .n .given .1)
 
 integer-of-requires : tie.Need-integer-of-requires
@@ -62,20 +62,20 @@ returns : tie.Need-returns
 unfolding readInteger
 returns c =
     let t = c .before .before .before .before .before .before in
-    c .integer-of .ensures ∙ rw (← t .before .before .head-of .ensures .is, sym (t .before .is-whole .ensures) ∙ t .if1 .taken, number (c .before .before))
+    c .integer-of .ensures ∙ rw (← t .before .before .head-at .ensures .is, sym (t .before .is-whole .ensures) ∙ t .if1 .taken, number (c .before .before))
 
 returns-2 : tie.Need-returns-2
 returns-2 c = absurd (read-missing big _ _ _ (within (c .before .before .before)) _ (c .before .before .read-big .ensures) (c .enum-told .given .1))
 
 returns-3 : tie.Need-returns-3
 unfolding readInteger
-returns-3 c = rw (← c .before .before .head-of .ensures .is, sym (c .before .is-whole .ensures) ∙ c .if1 .left)
+returns-3 c = rw (← c .before .before .head-at .ensures .is, sym (c .before .is-whole .ensures) ∙ c .if1 .left)
 
 pub read-integer-spec : {M : Type 1} → statement M
 read-integer-spec =
     tie.close
     (tie.spec
-    head-of-requires
+    head-at-requires
     is-whole-requires
     read-big-requires
     enum-known-n

@@ -25,14 +25,14 @@ enum-told c = search needs
 no-text : (c : tie.After-enum-told) → none ≡ textAt (drop (c .before .before .before .before .args .at) (c .before .before .before .before .args .part .now))
 no-text c = sym (ap (textOf (c .before .before .before .before .args .part .now)) (c .enum-told .given .1)) ∙ c .before .before .text-at .ensures .0
 
-texts-under-requires : tie.Need-texts-under-requires
-texts-under-requires c κs = search needs
+texts-at-requires : tie.Need-texts-at-requires
+texts-at-requires c κs = search needs
 
 enum-known-t : tie.Need-enum-known-t
 enum-known-t c = search needs
 
 from-texts-requires : tie.Need-from-texts-requires
-from-texts-requires c κs = c .before .before .before .texts-under .ensures .1 .texts _ (c .before .t .given .1)
+from-texts-requires c κs = c .before .before .before .texts-at .ensures .1 .texts _ (c .before .t .given .1)
 
 enum-told-2 : tie.Need-enum-told-2
 enum-told-2 c = search needs
@@ -41,10 +41,10 @@ returns : tie.Need-returns
 returns c = (c .from-composite .ensures .0 ∙ shape-is _ _ _ (sym (ap (textOf (c .before .before .before .before .before .before .args .part .now)) (c .before .before .text .given .1)) ∙ c .before .before .before .before .text-at .ensures .0) refl, c .from-composite .ensures .1)
 
 returns-2 : tie.Need-returns-2
-returns-2 c = (c .from-texts .ensures .0 ∙ shape-is _ none _ (no-text (c .before .before .before .before .before)) (sym (ap (textsOf (c .before .before .before .before .before .before .before .before .before .args .part .now)) (c .before .before .t .given .1)) ∙ c .before .before .before .before .texts-under .ensures .0), c .from-texts .ensures .1)
+returns-2 c = (c .from-texts .ensures .0 ∙ shape-is _ none _ (no-text (c .before .before .before .before .before)) (sym (ap (textsOf (c .before .before .before .before .before .before .before .before .before .args .part .now)) (c .before .before .t .given .1)) ∙ c .before .before .before .before .texts-at .ensures .0), c .from-texts .ensures .1)
 
 returns-3 : tie.Need-returns-3
-returns-3 c = (shape-is _ none none (no-text (c .before .before .before)) (sym (ap (textsOf (c .before .before .before .before .before .before .before .args .part .now)) (c .enum-told2 .given .1)) ∙ c .before .before .texts-under .ensures .0), no-block _ _)
+returns-3 c = (shape-is _ none none (no-text (c .before .before .before)) (sym (ap (textsOf (c .before .before .before .before .before .before .before .args .part .now)) (c .enum-told2 .given .1)) ∙ c .before .before .texts-at .ensures .0), no-block _ _)
 
 pub identifier-at-spec : {M : Type 1} → statement M
 identifier-at-spec =
@@ -54,7 +54,7 @@ identifier-at-spec =
     enum-known-text
     from-composite-requires
     enum-told
-    texts-under-requires
+    texts-at-requires
     enum-known-t
     from-texts-requires
     enum-told-2

@@ -1,68 +1,75 @@
 -- `primary::read_block` meets its contract: the part is whole, and the last `I` is read.
 use borrow.Author.Needs.{needs}
-use mathlib.Core.Path.{_≡_, sym, ap, _∙_}
 use mathlib.Core.Bool.{true}
+use mathlib.Core.Path.{_≡_, sym, _∙_}
 use borrow.Author.Tests.{not-true, not-false}
-use Rattle.msgpack.specs.Lookup.{placeOf, missing, broken, found, lastValue}
+use lib.ListN.{getD, length}
+use Rattle.msgpack.specs.Items.{whole, passOver}
+use Rattle.msgpack.specs.Lookup.{missing, broken, found, lastValue}
+use Rattle.msgpack.specs.LookupLaws.{value-whole}
+use Rattle.msgpack.specs.Pairs.{placeTold}
+use Rattle.msgpack.specs.PairLaws.{told-inside, told-found}
 use Rattle.primary.specs.Parts.{identifierKey, block, fills}
-use Rattle.primary.proofs.Readings.{no-block, value-place, cut, block-is}
+use Rattle.primary.proofs.Readings.{no-block, fills-is, fills-whole, not-filled, block-is}
+use Rattle.primary.proofs.Keys.{block-place, no-block-map}
 use Rattle.primary.proofs.read_block.Statement.{statement}
 use Rattle.primary.proofs.read_block.Tie as tie
+
+read-pairs-requires : tie.Need-read-pairs-requires
+read-pairs-requires c κs = search needs
 
 fills-requires : tie.Need-fills-requires
 fills-requires c κs = search needs
 
+-- whether the part is one whole item
+filled : (c : tie.After-fills) → fills (c .before .before .before .args .part .now) ≡ c .fills .result
+filled c = fills-is _ _ _ (c .before .read-pairs .ensures .passed) (c .fills .ensures)
+
 returns : tie.Need-returns
 unfolding block
-returns c = (cut _ _ (sym (c .before .fills .ensures) ∙ not-true _ (c .if1 .taken)), no-block _ _)
+returns c = (not-filled _ _ (filled (c .before) ∙ not-true _ (c .if1 .taken)), no-block _ _)
 
--- the part is whole
-whole : (c : tie.Else1) → fills (c .before .before .before .args .part .now) ≡ true
-whole c = sym (c .before .fills .ensures) ∙ not-false _ (c .if1 .left)
-
-slice-aggregate-map-value : tie.Need-slice-aggregate-map-value
-slice-aggregate-map-value c = search needs
-
-map-value-requires : tie.Need-map-value-requires
-map-value-requires c κs = search needs
-
-enum-known-at : tie.Need-enum-known-at
-enum-known-at c = search needs
-
--- where the last `I` stands
-identifier-found : (c : tie.After-known-told) → found (c .before .at .given .0 .0) ≡ lastValue identifierKey (c .before .before .before .before .before .before .before .before .args .part .now)
-identifier-found c = sym (ap placeOf (c .before .at .given .1)) ∙ c .before .before .before .map-value .ensures
-
-identifier-at-requires : tie.Need-identifier-at-requires
-identifier-at-requires c κs = value-place identifierKey (c .before .before .before .before .before .before .before .before .args .part .now) _ (identifier-found c)
-
-enum-told : tie.Need-enum-told
-enum-told c = search needs
-
-enum-told-2 : tie.Need-enum-told-2
-enum-told-2 c = search needs
+whole-part : (c : tie.Else1) → fills (c .before .before .before .before .args .part .now) ≡ true
+whole-part c = filled (c .before) ∙ not-false _ (c .if1 .left)
 
 returns-2 : tie.Need-returns-2
-returns-2 c = (c .identifier-at .ensures .0 ∙ block-is _ (whole (c .before .before .before .before .before .before)) _ (identifier-found (c .before)), c .identifier-at .ensures .1)
+returns-2 c =
+    let f = whole-part (c .before .before) in
+    (block-is _ f broken (no-block-map _ _ (c .before .before .before .before .read-pairs .ensures) _ (fills-whole _ f) (not-true _ (c .if2 .taken))), no-block _ _)
+
+array-read-at : tie.Need-array-read-at
+array-read-at c = search needs
+
+-- where the last `I` stands
+place : (c : tie.After-places) → lastValue identifierKey (c .before .before .before .before .before .before .before .args .part .now)
+    ≡ placeTold (getD (c .before .before .before .before .before .read-pairs .result .places) 0 0)
+place c =
+    block-place _ _ (c .before .before .before .before .before .read-pairs .ensures) _ (fills-whole _ (whole-part (c .before .before .before))) (not-false _ (c .before .if2 .left))
 
 returns-3 : tie.Need-returns-3
-returns-3 c = (block-is _ (whole (c .before .before .before .before)) missing (sym (ap placeOf (c .enum-told .given .1)) ∙ c .before .before .map-value .ensures), no-block _ _)
+returns-3 c = (block-is _ (whole-part (c .before .before .before .before)) missing (place (c .before) ∙ rw (c .if3 .taken)), no-block _ _)
+
+identifier-found : (c : tie.Else3) → lastValue identifierKey (c .before .before .before .before .before .before .before .before .args .part .now)
+    ≡ found (getD (c .before .before .before .before .before .before .read-pairs .result .places) 0 0)
+identifier-found c = place (c .before) ∙ told-found _ (c .if3 .left)
+
+identifier-at-requires : tie.Need-identifier-at-requires
+identifier-at-requires c κs =
+    (told-inside identifierKey _ (getD (c .before .before .before .before .before .before .read-pairs .result .places) 0 0) (place (c .before)), value-whole _ _ _ (identifier-found c))
 
 returns-4 : tie.Need-returns-4
-returns-4 c = (block-is _ (whole (c .before .before .before .before)) broken (sym (ap placeOf (c .enum-told2 .given .1)) ∙ c .before .before .map-value .ensures), no-block _ _)
+returns-4 c =
+    (c .identifier-at .ensures .0 ∙ block-is _ (whole-part (c .before .before .before .before .before)) _ (identifier-found (c .before)), c .identifier-at .ensures .1)
 
 pub read-block-spec : {M : Type 1} → statement M
 read-block-spec =
     tie.close
     (tie.spec
+    read-pairs-requires
     fills-requires
     returns
-    slice-aggregate-map-value
-    map-value-requires
-    enum-known-at
-    identifier-at-requires
-    enum-told
-    enum-told-2
     returns-2
+    array-read-at
     returns-3
+    identifier-at-requires
     returns-4)

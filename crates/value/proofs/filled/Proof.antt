@@ -16,10 +16,10 @@ header-read : (c : tie.After-known-told) → header packLimit (take (c .before .
 header-read c = sym (c .before .before .before .header .ensures) ∙ ap toldOf (c .before .t .given .1)
 
 slice-aggregate-header : tie.Need-slice-aggregate-header
-slice-aggregate-header c = sym (length-take-le _ _ (c .before .before .pre))
+slice-aggregate-header c = sym (length-take-le _ _ (c .before .before .pre .0))
 
 header-requires : tie.Need-header-requires
-header-requires c κs = search needs
+header-requires c κs = c .before .before .pre .1
 
 enum-known-t : tie.Need-enum-known-t
 enum-known-t c = search needs

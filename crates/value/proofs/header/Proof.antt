@@ -1,11 +1,12 @@
--- `value::header` meets its contract, by where the last `s` stands.
+-- `value::header` meets its contract, by the place told of `s`.
 use borrow.Author.Needs.{needs}
 use mathlib.Core.Path.{_≡_, sym, ap, _∙_}
 use mathlib.Core.Option.{some}
-use native.Mathlib.Omega.{arith}
 use Rattle.slices.specs.Lists.{part-to-end}
-use Rattle.value.specs.Header.{alone, header, toldOf}
-use Rattle.value.proofs.Lookups.{found-inside, under-found, under-missing, under-broken}
+use Rattle.msgpack.specs.Lookup.{found, lastValue, under}
+use Rattle.msgpack.specs.LookupLaws.{value-whole}
+use Rattle.msgpack.specs.PairLaws.{told-inside, told-found}
+use Rattle.value.specs.Header.{secondaryKey, alone, header, toldOf}
 use Rattle.value.proofs.header.Statement.{statement}
 use Rattle.value.proofs.header.Tie as tie
 
@@ -13,7 +14,7 @@ alone-read : (c : tie.After-known-told) → alone (c .before .before .before .be
 alone-read c = sym (c .before .before .before .alone .ensures) ∙ ap toldOf (c .before .t .given .1)
 
 alone-requires : tie.Need-alone-requires
-alone-requires c κs = search needs
+alone-requires c κs = c .before .pre
 
 enum-known-t : tie.Need-enum-known-t
 enum-known-t c = search needs
@@ -25,45 +26,31 @@ returns : tie.Need-returns
 unfolding header
 returns c = rw (sym (c .before .before .alone .ensures) ∙ ap toldOf (c .enum-told .given .1))
 
-slice-aggregate-map-value : tie.Need-slice-aggregate-map-value
-slice-aggregate-map-value c = search needs
+returns-2 : tie.Need-returns-2
+unfolding header under
+returns-2 c = rw (alone-read (c .before), c .before .before .before .before .before .before .pre .secondary, c .if1 .taken)
 
-map-value-requires : tie.Need-map-value-requires
-map-value-requires c κs = search needs
-
-enum-known-p : tie.Need-enum-known-p
-enum-known-p c = search needs
+-- where the list stands
+list-found : (c : tie.Else1) → lastValue secondaryKey (c .before .before .before .before .before .before .args .map .now) ≡ found (c .before .before .before .before .before .before .args .places .s)
+list-found c = c .before .before .before .before .before .before .pre .secondary ∙ told-found _ (c .if1 .left)
 
 sub-with-list : tie.Need-sub-with-list
-sub-with-list c = omega (arith, found-inside _ _ _ (c .before .before .before .map-value .ensures) _ (c .before .p .given .1))
+sub-with-list c = told-inside _ _ _ (c .before .before .before .before .before .before .pre .secondary)
 
 part-with-list-start : tie.Need-part-with-list-start
-part-with-list-start c = omega (arith, found-inside _ _ _ (c .before .before .before .map-value .ensures) _ (c .before .p .given .1))
+part-with-list-start c = told-inside _ _ _ (c .before .before .before .before .before .before .pre .secondary)
 
 part-with-list-end : tie.Need-part-with-list-end
 part-with-list-end c = search needs
 
 with-list-requires : tie.Need-with-list-requires
-with-list-requires c κs = search needs
-
-enum-told-2 : tie.Need-enum-told-2
-enum-told-2 c = search needs
-
-enum-told-3 : tie.Need-enum-told-3
-enum-told-3 c = search needs
-
-returns-2 : tie.Need-returns-2
-unfolding header
-returns-2 c = let k = c .before .before in
-    c .with-list .ensures ∙ rw (part-to-end, alone-read (k .before .before .before .before .before), under-found _ _ _ (k .before .before .before .map-value .ensures) _ _ _ (k .before .p .given .1))
+with-list-requires c κs =
+    let a = c .before .before .before .before .before .before .before .args in
+    rw (part-to-end (a .places .s) (a .map .now)) (value-whole _ _ _ (list-found (c .before)))
 
 returns-3 : tie.Need-returns-3
-unfolding header
-returns-3 c = rw (alone-read (c .before .before .before .before), under-missing _ _ _ (c .before .before .map-value .ensures) _ _ (c .enum-told2 .given .1))
-
-returns-4 : tie.Need-returns-4
-unfolding header
-returns-4 c = rw (alone-read (c .before .before .before .before), under-broken _ _ _ (c .before .before .map-value .ensures) _ _ (c .enum-told3 .given .1))
+unfolding header under
+returns-3 c = c .with-list .ensures ∙ rw (part-to-end, alone-read (c .before .before .before), list-found (c .before .before))
 
 pub header-spec : {M : Type 1} → statement M
 header-spec =
@@ -73,15 +60,9 @@ header-spec =
     enum-known-t
     enum-told
     returns
-    slice-aggregate-map-value
-    map-value-requires
-    enum-known-p
+    returns-2
     sub-with-list
     part-with-list-start
     part-with-list-end
     with-list-requires
-    enum-told-2
-    enum-told-3
-    returns-2
-    returns-3
-    returns-4)
+    returns-3)

@@ -1,23 +1,50 @@
 -- `value::read` meets its contract, by what passing over the first item finds.
 use borrow.Author.Needs.{needs}
 use mathlib.Core.Path.{_≡_, sym, ap, _∙_}
+use borrow.Author.Tests.{not-true, not-false}
 use Rattle.msgpack.specs.Items.{whole, passageOf, passOver}
 use Rattle.msgpack.specs.PassingLaws.{bounded}
+use Rattle.value.specs.Header.{alone, header}
 use Rattle.value.specs.Reading.{reading}
+use Rattle.value.proofs.Lookups.{no-bytes}
+use Rattle.value.proofs.Keys.{header-places, no-header}
 use Rattle.value.proofs.read.Statement.{statement}
 use Rattle.value.proofs.read.Tie as tie
 
-item-whole : (c : tie.After-known-told) → passOver (c .before .before .before .before .before .args .value .now) ≡ whole (c .before .n .given .0 .0)
-item-whole c = sym (c .before .before .before .pass-over .ensures) ∙ ap passageOf (c .before .n .given .1)
+item-whole : (c : tie.After-known-told) → passOver (c .before .before .before .before .before .before .args .value .now) ≡ whole (c .before .passed .given .0 .0)
+item-whole c = sym (c .before .before .before .before .read-pairs .ensures .passed) ∙ ap passageOf (c .before .passed .given .1)
 
-pass-over-requires : tie.Need-pass-over-requires
-pass-over-requires c κs = search needs
+read-pairs-requires : tie.Need-read-pairs-requires
+read-pairs-requires c κs = search needs
 
-enum-known-n : tie.Need-enum-known-n
-enum-known-n c = search needs
+enum-known-passed : tie.Need-enum-known-passed
+enum-known-passed c = search needs
+
+returns : tie.Need-returns
+unfolding reading header alone
+returns c =
+    let k = c .before .before in
+    rw (item-whole k, no-bytes _ _ (no-header _ _ (k .before .before .before .before .read-pairs .ensures) _ (item-whole k) (not-true _ (c .if1 .taken))))
+
+array-read-t12 : tie.Need-array-read-t12
+array-read-t12 c = search needs
+
+array-read-t15 : tie.Need-array-read-t15
+array-read-t15 c = search needs
+
+array-read-t18 : tie.Need-array-read-t18
+array-read-t18 c = search needs
+
+array-read-t21 : tie.Need-array-read-t21
+array-read-t21 c = search needs
+
+array-read-t24 : tie.Need-array-read-t24
+array-read-t24 c = search needs
 
 filled-requires : tie.Need-filled-requires
-filled-requires c κs = bounded _ _ _ (item-whole c) .within
+filled-requires c κs =
+    let k = c .before .before in
+    (bounded _ _ _ (item-whole k) .within, header-places _ _ (k .before .before .before .before .read-pairs .ensures) _ (item-whole k) (not-false _ (c .if1 .left)))
 
 enum-told : tie.Need-enum-told
 enum-told c = search needs
@@ -25,27 +52,33 @@ enum-told c = search needs
 enum-told-2 : tie.Need-enum-told-2
 enum-told-2 c = search needs
 
-returns : tie.Need-returns
-unfolding reading
-returns c = c .filled .ensures ∙ rw (item-whole (c .before))
-
 returns-2 : tie.Need-returns-2
 unfolding reading
-returns-2 c = rw (sym (c .before .before .pass-over .ensures) ∙ ap passageOf (c .enum-told .given .1))
+returns-2 c = c .filled .ensures ∙ rw (item-whole (c .before .before .before))
 
 returns-3 : tie.Need-returns-3
 unfolding reading
-returns-3 c = rw (sym (c .before .before .pass-over .ensures) ∙ ap passageOf (c .enum-told2 .given .1))
+returns-3 c = rw (sym (c .before .before .before .read-pairs .ensures .passed) ∙ ap passageOf (c .enum-told .given .1))
+
+returns-4 : tie.Need-returns-4
+unfolding reading
+returns-4 c = rw (sym (c .before .before .before .read-pairs .ensures .passed) ∙ ap passageOf (c .enum-told2 .given .1))
 
 pub read-spec : {M : Type 1} → statement M
 read-spec =
     tie.close
     (tie.spec
-    pass-over-requires
-    enum-known-n
+    read-pairs-requires
+    enum-known-passed
+    returns
+    array-read-t12
+    array-read-t15
+    array-read-t18
+    array-read-t21
+    array-read-t24
     filled-requires
     enum-told
     enum-told-2
-    returns
     returns-2
-    returns-3)
+    returns-3
+    returns-4)

@@ -7,7 +7,7 @@ use native.Mathlib.Omega.{arith}
 use Rattle.slices.specs.Lists.{part-to-end}
 use Rattle.msgpack.specs.Formats.{arrayKind}
 use Rattle.msgpack.specs.Readers.{counted, readArray, countedOf}
-use Rattle.msgpack.specs.ReaderLaws.{head-inside}
+use Rattle.msgpack.specs.ReaderLaws.{head-inside, first-item}
 use Rattle.value.specs.Header.{withList}
 use Rattle.value.proofs.with_list.Statement.{statement}
 use Rattle.value.proofs.with_list.Tie as tie
@@ -35,7 +35,11 @@ part-with-map-end : tie.Need-part-with-map-end
 part-with-map-end c = search needs
 
 with-map-requires : tie.Need-with-map-requires
-with-map-requires c κs = search needs
+with-map-requires c κs =
+    let n = c .before in
+    let a = n .before .before .before .before .before .before .before in
+    rw (part-to-end (n .before .before .before .count .given .0 .1 .0) (a .args .s .now))
+    (first-item (a .args .s .now) _ (items-read (n .before .before)) (omega (arith, n .if2 .taken)) (a .pre))
 
 returns-2 : tie.Need-returns-2
 unfolding withList

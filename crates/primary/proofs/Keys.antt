@@ -1,0 +1,100 @@
+-- The keys of primary parts: where one pass over a whole item tells their values.
+use Prim.Native.Nat.{ℕ, _<_}
+use mathlib.Core.Bool.{true, false}
+use mathlib.Core.List.{List, [], _∷_}
+use mathlib.Core.Path.{_≡_, refl, ap, _∙_}
+use native.Mathlib.Omega.{arith}
+use lib.ListN.{getD}
+use Rattle.slices.specs.Bytes.{none-bytes, cons-bytes}
+use Rattle.endian.specs.Numbers.{little, big}
+use Rattle.msgpack.specs.Items.{whole, passOver}
+use Rattle.msgpack.specs.Lookup.{broken, lastValue}
+use Rattle.msgpack.specs.Pairs.{codeOf, position, keysAsked, Asked, placeTold, PairsRead}
+use Rattle.msgpack.specs.PairLaws.{letter-asked, place-is, no-map}
+use Rattle.msgpack.specs.declared.Pairs.{Pairs}
+use Rattle.primary.specs.Parts.{ulidKey, bucketKey, objectKey, identifierKey, deletedKey, deleteIdKey}
+use Rattle.primary.specs.Answers.{IdentifierAt}
+
+module _ (s keys : List ℕ) (r : Pairs) (read : PairsRead s keys r) (n : ℕ) (w : passOver s ≡ whole n) where
+  -- of a key of one byte, which is the j-th asked for
+  letter-place : (b j : ℕ) → b < 256 → j < keysAsked → position keys (codeOf (b ∷ [])) ≡ j → r .map ≡ true → lastValue (b ∷ []) s ≡ placeTold (getD (r .places) j 0)
+  letter-place b j byte l e m =
+      place-is s keys r read n w (b ∷ []) (letter-asked keys b byte (omega arith)) m ∙ ap (λ (k : ℕ). placeTold (getD (r .places) k 0)) e
+
+  identifier-places : position keys (codeOf ulidKey) ≡ 0 → position keys (codeOf bucketKey) ≡ 1 → position keys (codeOf objectKey) ≡ 2
+      → r .map ≡ true → IdentifierAt s (r .places)
+  identifier-places v b o m = record {
+    ulid = letter-place 118 0 (omega arith) (omega arith) v m;
+    bucket = letter-place 98 1 (omega arith) (omega arith) b m;
+    object = letter-place 111 2 (omega arith) (omega arith) o m;
+  }
+
+  no-letter : (b j : ℕ) → b < 256 → j < keysAsked → position keys (codeOf (b ∷ [])) ≡ j → r .map ≡ false → lastValue (b ∷ []) s ≡ broken
+  no-letter b j byte l e m = no-map s keys r read n w (b ∷ []) (letter-asked keys b byte (omega arith)) m
+
+-- ---- an identifier's map
+
+abbrev pub identifierKeys : List ℕ
+identifierKeys = 0x176 ∷ 0x162 ∷ 0x16f ∷ 0 ∷ 0 ∷ 0 ∷ 0 ∷ 0 ∷ []
+
+module _ (s : List ℕ) (r : Pairs) (read : PairsRead s identifierKeys r) (n : ℕ) (w : passOver s ≡ whole n) where
+  pub map-identifier : r .map ≡ true → IdentifierAt s (r .places)
+  unfolding position codeOf big little
+  map-identifier = identifier-places s identifierKeys r read n w refl refl refl
+
+  pub no-identifier : r .map ≡ false → lastValue ulidKey s ≡ broken
+  unfolding position codeOf big little
+  no-identifier = no-letter s identifierKeys r read n w 118 0 (omega arith) (omega arith) refl
+
+-- ---- a block
+
+abbrev pub blockKeys : List ℕ
+blockKeys = 0x149 ∷ 0 ∷ 0 ∷ 0 ∷ 0 ∷ 0 ∷ 0 ∷ 0 ∷ []
+
+module _ (s : List ℕ) (r : Pairs) (read : PairsRead s blockKeys r) (n : ℕ) (w : passOver s ≡ whole n) where
+  pub block-place : r .map ≡ true → lastValue identifierKey s ≡ placeTold (getD (r .places) 0 0)
+  unfolding position codeOf big little
+  block-place = letter-place s blockKeys r read n w 73 0 (omega arith) (omega arith) refl
+
+  pub no-block-map : r .map ≡ false → lastValue identifierKey s ≡ broken
+  unfolding position codeOf big little
+  no-block-map = no-letter s blockKeys r read n w 73 0 (omega arith) (omega arith) refl
+
+-- ---- a version
+
+abbrev pub versionKeys : List ℕ
+versionKeys = 0x176 ∷ 0x162 ∷ 0x16f ∷ 0x164 ∷ 0 ∷ 0 ∷ 0 ∷ 0 ∷ []
+
+module _ (s : List ℕ) (r : Pairs) (read : PairsRead s versionKeys r) (n : ℕ) (w : passOver s ≡ whole n) where
+  pub version-identifier : r .map ≡ true → IdentifierAt s (r .places)
+  unfolding position codeOf big little
+  version-identifier = identifier-places s versionKeys r read n w refl refl refl
+
+  pub flag-place : r .map ≡ true → lastValue deletedKey s ≡ placeTold (getD (r .places) 3 0)
+  unfolding position codeOf big little
+  flag-place = letter-place s versionKeys r read n w 100 3 (omega arith) (omega arith) refl
+
+  pub no-version-map : r .map ≡ false → lastValue ulidKey s ≡ broken
+  unfolding position codeOf big little
+  no-version-map = no-letter s versionKeys r read n w 118 0 (omega arith) (omega arith) refl
+
+-- ---- a version delete
+
+abbrev pub deleteKeys : List ℕ
+deleteKeys = 0x176 ∷ 0x162 ∷ 0x16f ∷ 0x13f3f3f ∷ 0 ∷ 0 ∷ 0 ∷ 0 ∷ []
+
+module _ (s : List ℕ) (r : Pairs) (read : PairsRead s deleteKeys r) (n : ℕ) (w : passOver s ≡ whole n) where
+  pub delete-identifier : r .map ≡ true → IdentifierAt s (r .places)
+  unfolding position codeOf big little
+  delete-identifier = identifier-places s deleteKeys r read n w refl refl refl
+
+  pub delete-id-place : r .map ≡ true → lastValue deleteIdKey s ≡ placeTold (getD (r .places) 3 0)
+  unfolding position codeOf big little
+  delete-id-place m =
+      let mark : 63 < 256 = omega arith in
+      let asked : Asked deleteKeys deleteIdKey = record { bytes = cons-bytes mark (cons-bytes mark (cons-bytes mark none-bytes)); short = omega arith; listed = omega arith } in
+      place-is s deleteKeys r read n w deleteIdKey asked m
+
+  pub no-delete-map : r .map ≡ false → lastValue ulidKey s ≡ broken
+  unfolding position codeOf big little
+  no-delete-map = no-letter s deleteKeys r read n w 118 0 (omega arith) (omega arith) refl
