@@ -11,6 +11,7 @@ use lib.Seq.{drop-drop}
 use Rattle.refusals.specs.Sheet.{lowest}
 use Rattle.refusals.specs.Answers.{Answer, refused, result, unless}
 use Rattle.tlv.specs.Found.{Found, step}
+use Rattle.value.specs.Header.{Telling}
 use Rattle.value.specs.declared.Told.{Told}
 use Rattle.primary.specs.Answers.{numberOf}
 use Rattle.primary.specs.declared.Fault.{Fault}
@@ -45,7 +46,7 @@ module _ (s : List ℕ) (told : Told) where
 
 -- ---- refusals 13 to 15
 
-module _ {A : Type 0} (tag : ℕ) (t : Told) (next : Answer A) where
+module _ {A : Type 0} (tag : ℕ) (t : Telling) (next : Answer A) where
   abbrev tested : Answer A
   tested = unless (lowest (toldRows tag t)) next
 

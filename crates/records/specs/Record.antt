@@ -9,6 +9,7 @@ use Rattle.refusals.specs.Answers.{Answer, refused, result, isResult, unless}
 use Rattle.tlv.specs.Found.{Found, end, found, fault, step}
 use Rattle.tlv.specs.declared.RecordHeader.{RecordHeader}
 use Rattle.identifier.specs.Identity.{Identity}
+use Rattle.value.specs.Header.{Telling, tellingOf}
 use Rattle.value.specs.Reading as value
 use Rattle.value.specs.declared.Told.{Told}
 use Rattle.primary.specs.Parts as primary
@@ -64,8 +65,8 @@ pub record Record : Type 0 where
   pub told : Told  -- the parts, as places of the value
   pub contents : Contents
 
--- 13 to 15: a number, and whether it applies to a value of which t is told
-unfoldable pub toldRows : ℕ → Told → List Row
+-- 13 to 15: a number, and whether it applies to a value whose header tells t
+unfoldable pub toldRows : ℕ → Telling → List Row
 toldRows tag t =
     record { number = 13; applies = not (isKnown tag) }
     ∷ record { number = 14; applies = not (eqb (t .version) 0) }
@@ -80,7 +81,7 @@ withTold t (result c) = result (record { told = t; contents = c })
 withTold t (refused n) = refused n
 
 abbrev pub byValue : ℕ → List ℕ → Answer Told → Answer Record
-byValue tag s (result t) = unless (lowest (toldRows tag t)) (withTold t (contents tag (primaryIn s t)))
+byValue tag s (result t) = unless (lowest (toldRows tag (tellingOf t))) (withTold t (contents tag (primaryIn s t)))
 byValue tag s (refused n) = refused n
 
 -- the record with this tag and the value s, in which a secondary part has at most `limit` bytes

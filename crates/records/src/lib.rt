@@ -6,6 +6,7 @@ ghost use lib.ListN.{length, take, drop};
 ghost use Rattle.refusals.specs.Sheet.{lowest};
 ghost use Rattle.refusals.specs.Limit.{packLimit};
 ghost use Rattle.refusals.specs.Answers.{unless};
+ghost use Rattle.value.specs.Header.{tellingOf};
 ghost use Rattle.primary.specs.Parts.{block, version, versionDelete};
 ghost use Rattle.records.specs.Record.{isKnown, ofBlock, ofVersion, ofVersionDelete, contents, toldRows, primaryIn, withTold, readRecord, atPlace, recordAt};
 ghost use Rattle.records.specs.Answers.{numberOf, partOf, answerOf, placeOf, PartInside, RecordInside, PlaceInside};
@@ -151,7 +152,7 @@ fn with_part(tag: u16, value: &[u8], told: Told) -> Reading
 // The tests come in the order of their numbers.
 fn by_told(tag: u16, value: &[u8], told: Told) -> Reading
     requires { ⌜ told .primary .start + told .primary .len ≤ length (now value) ⌝ }
-    ensures { λ r. ⌜ answerOf (now (value .entry)) r ≡ unless (lowest (toldRows tag told))
+    ensures { λ r. ⌜ answerOf (now (value .entry)) r ≡ unless (lowest (toldRows tag (tellingOf told)))
         (withTold told (contents tag (primaryIn (now (value .entry)) told))) ⌝ }
     ensures inside { λ r. ⌜ RecordInside (now (value .entry)) r ⌝ }
 {
