@@ -73,6 +73,7 @@ shiftKind by kind-answer.Block = kind-answer.Block
 shiftKind by (kind-answer.Version deleted) = kind-answer.Version deleted
 shiftKind by (kind-answer.VersionDelete id) = kind-answer.VersionDelete (shiftPlace by id)
 
+-- the sum is a number of 64 bits
 pub record KindFits (by : ℕ) (k : declared-kind.Kind) : Type 0 where
   pub delete-id : (id : Place) → k ≡ kind-answer.VersionDelete id → by + id .start < 2 ^ 64
 
