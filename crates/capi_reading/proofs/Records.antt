@@ -10,12 +10,11 @@ use borrow.Author.Tests.{le-leb, lt-leb, leb-true, leb-false}
 use denote.Enum.Declared.{tagOf}
 use types.Run.{OneOf}
 use lib.Dec.{leb}
-use lib.ListN.{length, getD, take, drop, length-drop}
-use lib.Seq.{length-take-le}
+use lib.ListN.{length, getD}
 use Rattle.slices.specs.Overwriting.{overwritten, writtenBytes, written-within}
 use Rattle.slices.specs.Logic.{absurd-numbers}
-use Rattle.slices.specs.Lists.{part-of-part}
-use Rattle.slices.specs.Places.{partAt, length-part}
+use Rattle.slices.specs.Places.{partAt, Inside, Within, length-part, within-inside}
+use Rattle.slices.specs.declared.Place.{Place}
 use Rattle.refusals.specs.Limit.{packLimit}
 use Rattle.identifier.specs.Composite.{compositeText}
 use Rattle.identifier.specs.Identity.{Identity, isValid}
@@ -23,20 +22,32 @@ use Rattle.identifier.specs.Writing.{wrote, refused, outcomeOf, outcome as writ
 use Rattle.identifier.specs.declared.Written.{Written}
 use Rattle.identifier.specs.declared.Written.the-variants.{Bytes, Inadmissible, Short}
 use Rattle.identifier.proofs.Written.{the-type}
+use Rattle.value.specs.declared.Told.{Told}
 use Rattle.primary.specs.Answers.{textsIn}
-use Rattle.records.specs.Record.{Kind, block, version, versionDelete, Record, primaryIn, there, refusedAt, alone, recordAt}
-use Rattle.records.specs.Answers.{kindIn, recordIn, placeOf, KindInside, ContentsInside, PlaceInside}
+use Rattle.records.specs.Record.{versionDelete, Record, AtPlace, there, refusedAt, alone, recordAt, toldFrom, recordFrom, thereFrom}
+use Rattle.records.specs.Answers.{kindIn, contentsIn, recordIn, placeOf, PlaceInside}
 use Rattle.records.specs.declared.Kind as declared-kind
 use Rattle.records.specs.declared.Kind.the-variants.{Block, Version, VersionDelete}
 use Rattle.records.specs.declared.Record as declared-record
 use Rattle.records.specs.declared.AtPlace as declared-place
 use Rattle.records.specs.declared.AtPlace.the-variants as place-answer
 use Rattle.words.specs.Words.{answer, answer-whole}
-use Rattle.capi_reading.specs.Record.{outcome, kindWords, recordWords, TextAt, RecordHolds, startIn, PlacesFit, IsRecord}
+use Rattle.capi_reading.specs.Record.{outcome, kindWords, recordWords, TextAt, RecordHolds, kindTold, IsRecord}
 use Rattle.capi_reading.specs.declared.record.KindWords.{KindWords}
-use Rattle.capi_reading.proofs.Places.{StandsAt, record-stands, place-within}
+use Rattle.capi_reading.proofs.Places.{record-valid, place-within}
 
--- ---- refusals
+-- ---- refusals, which tell no part
+
+module _ (by n : ℕ) where
+  refused-there : (place : ℕ) (a : AtPlace) → thereFrom by a ≡ refusedAt n place → a ≡ refusedAt n place
+  refused-there place (there value r) e = absurd-numbers (cc)
+  refused-there place (refusedAt m p) e = e
+  refused-there place (alone m) e = e
+
+  alone-there : (a : AtPlace) → thereFrom by a ≡ alone n → a ≡ alone n
+  alone-there (there value r) e = absurd-numbers (cc)
+  alone-there (refusedAt m p) e = e
+  alone-there (alone m) e = e
 
 module _ (pack : List ℕ) (at : ℕ) (words bytes : List ℕ) where
   refused-outcome : (n place : ℕ) → outcome pack at (length words) (length bytes) ≡ refusedAt n place → RecordHolds pack at words bytes (answer n place) words bytes
@@ -47,15 +58,16 @@ module _ (pack : List ℕ) (at : ℕ) (words bytes : List ℕ) where
   alone-outcome n e =
       record { answers = rw e; words-told = rw e; text-told = rw e; delete-id = rw e (record { text = λ value r id p q. absurd-numbers (cc) }) }
 
-  pub refused-holds : (n place : ℕ) → recordAt packLimit pack at ≡ refusedAt n place → n < 256 → RecordHolds pack at words bytes (answer n place % 2 ^ 64) words bytes
+  pub refused-holds : (n place : ℕ) → thereFrom (at + 32) (recordAt packLimit pack at) ≡ refusedAt n place → n < 256 → RecordHolds pack at words bytes (answer n place % 2 ^ 64) words bytes
   unfolding outcome
   refused-holds n place e small =
-      let within = place-within packLimit pack at n place e in
-      rw (answer-whole n place small (omega arith)) (refused-outcome n place (rw e))
+      let is = refused-there (at + 32) n place (recordAt packLimit pack at) e in
+      let within = place-within packLimit pack at n place is in
+      rw (answer-whole n place small (omega arith)) (refused-outcome n place (rw is))
 
-  pub alone-holds : (n : ℕ) → recordAt packLimit pack at ≡ alone n → n < 256 → RecordHolds pack at words bytes (answer n 0 % 2 ^ 64) words bytes
+  pub alone-holds : (n : ℕ) → thereFrom (at + 32) (recordAt packLimit pack at) ≡ alone n → n < 256 → RecordHolds pack at words bytes (answer n 0 % 2 ^ 64) words bytes
   unfolding outcome
-  alone-holds n e small = rw (answer-whole n 0 small (omega arith)) (alone-outcome n (rw e))
+  alone-holds n e small = rw (answer-whole n 0 small (omega arith)) (alone-outcome n (rw (alone-there (at + 32) n (recordAt packLimit pack at) e)))
 
   module _ (value : List ℕ) (r : Record) (is : recordAt packLimit pack at ≡ there value r) where
     pub few-words : length words < 16 → RecordHolds pack at words bytes (answer 19 0) words bytes
@@ -107,112 +119,93 @@ module _ (i : Identity) (bytes : List ℕ) (valid : isValid i ≡ true) (w : Wri
           let d = write-short i bytes 0 valid (omega (arith, leb-false (length (compositeText i)) (length bytes) e)) in
           record { room = leb-false _ _ e; is = holds ∙ d .1 }
 
+-- ---- the words of a kind, whose delete identifier lies within a place of the pack
+
+module _ (pack : List ℕ) (p : Place) (inside : Inside pack p) where
+  words-told : (k : declared-kind.Kind) → ((id : Place) → k ≡ VersionDelete id → Within p id) → kindWords (kindTold k .start) (kindIn pack k) ≡ kindTold k
+  words-told Block w = refl
+  words-told (Version deleted) w = refl
+  words-told (VersionDelete id) w = rw (length-part pack id (within-inside pack inside (w id refl)))
+
+  delete-text : (k : declared-kind.Kind) → ((id : Place) → k ≡ VersionDelete id → Within p id) → (text : List ℕ) → kindIn pack k ≡ versionDelete text
+      → TextAt pack text (p .start) (kindTold k .start) (p .start + p .len)
+  delete-text Block w text e = absurd-numbers (cc)
+  delete-text (Version deleted) w text e = absurd-numbers (cc)
+  delete-text (VersionDelete id) w text e =
+      let is : partAt pack id ≡ text = cc in
+      let within = w id refl in
+      let long = length-part pack id (within-inside pack inside within) in
+      subst (λ u. TextAt pack u (p .start) (id .start) (p .start + p .len)) is (record { after = within .after; inside = omega arith; is = rw long })
+
 -- ---- a record that was read at a place
 
-pub is-record : (pack : List ℕ) (at : ℕ) (a : declared-place.AtPlace) → placeOf pack a ≡ recordAt packLimit pack at → PlaceInside pack a
-    → (r : declared-record.Record) (start len : ℕ) → a ≡ place-answer.Record r start len → IsRecord pack at len r
-is-record pack at a told inside r start len is =
-    let value : List ℕ = take len (drop start pack) in
-    let e : recordAt packLimit pack at ≡ there (take len (drop start pack)) (recordIn (take len (drop start pack)) r) = sym told ∙ ap (placeOf pack) is in
-    let s = record-stands packLimit pack at _ _ e in
-    let l : length (take len (drop start pack)) ≡ len = length-take-le len (drop start pack) (omega (arith, inside .value r start len is, length-drop start pack)) in
-    let v : take len (drop start pack) ≡ take len (drop (at + 32) pack) = sym (rw l at (s .value-is)) in
-    record {
-      inside = omega (arith, s .inside);
-      is = subst (λ x. recordAt packLimit pack at ≡ there x (recordIn x r)) v e;
-      contents = subst (λ x. ContentsInside (primaryIn x (r .told)) (r .identifier) (r .kind)) v (inside .contents r start len is);
-    }
+pub is-record : (pack : List ℕ) (at : ℕ) (a : declared-place.AtPlace) → placeOf pack a ≡ thereFrom (at + 32) (recordAt packLimit pack at) → PlaceInside pack at a
+    → (r : declared-record.Record) (value : Place) → a ≡ place-answer.Record r value → IsRecord pack at value r
+is-record pack at a told inside r value is =
+    record { is = sym (ap (placeOf pack) is) ∙ told; value = inside .value r value is; places = inside .places r value is }
 
-module _ (pack : List ℕ) (at len : ℕ) (r : declared-record.Record) (h : IsRecord pack at len r) where
-  abbrev value : List ℕ
-  value = take len (drop (at + 32) pack)
+module _ (pack : List ℕ) (at : ℕ) (value : Place) (r : declared-record.Record) (h : IsRecord pack at value r) where
+  abbrev read : Told → Record
+  read t = record { told = t; contents = contentsIn pack (r .identifier) (r .kind) }
 
-  abbrev part : List ℕ
-  part = primaryIn value (r .told)
+  -- what the value tells by itself
+  pub record Here : Type 0 where
+    pub told : Told
+    pub is : recordAt packLimit pack at ≡ there (partAt pack value) (read told)
+    pub from : r .told ≡ toldFrom (value .start) told
 
-  abbrev by : ℕ
-  by = at + 32 + r .told .primary .start
+  start-is : value .start ≡ at + 32
+  start-is = ap (λ (p : Place). p .start) (h .value .is)
 
-  stands : StandsAt packLimit pack at value (recordIn value r)
-  stands = record-stands packLimit pack at value (recordIn value r) (h .is)
+  pub here : Here
+  here = by (recordAt packLimit pack at) refl (h .is)
+    where
+      by : (a : AtPlace) → recordAt packLimit pack at ≡ a → there (partAt pack value) (recordIn pack r) ≡ thereFrom (at + 32) a → Here
+      by (there v x) e f =
+          let same-value : partAt pack value ≡ v = cc in
+          let same : recordIn pack r ≡ recordFrom (at + 32) x = cc in
+          let same-contents : contentsIn pack (r .identifier) (r .kind) ≡ x .contents = ap (λ (y : Record). y .contents) same in
+          record { told = x .told; is = rw (same-value, same-contents) e; from = rw start-is (ap (λ (y : Record). y .told) same) }
+      by (refusedAt n place) e f = absurd-numbers (cc)
+      by (alone n) e f = absurd-numbers (cc)
 
-  value-length : length value ≡ len
-  value-length = length-take-le len (drop (at + 32) pack) (omega (arith, h .inside, length-drop (at + 32) pack))
-
-  primary-inside : r .told .primary .start + r .told .primary .len ≤ len
-  primary-inside = omega (arith, stands .parts .primary-first, stands .parts .secondary-last, value-length)
-
-  part-length : length part ≡ r .told .primary .len
-  part-length = length-take-le (r .told .primary .len) (drop (r .told .primary .start) value) (omega (arith, primary-inside, value-length, length-drop (r .told .primary .start) value))
-
-  pub rules : isValid (textsIn part (r .identifier)) ≡ true
-  rules = stands .rules
-
-  start-inside : (k : declared-kind.Kind) → KindInside part k → startIn k ≤ r .told .primary .len
-  start-inside Block i = omega arith
-  start-inside (Version deleted) i = omega arith
-  start-inside (VersionDelete t) i = omega (arith, i .delete-id t refl .end, part-length)
-
-  pub places-fit : PlacesFit (at + 32) r
-  places-fit =
-      let s = stands in
-      let l = value-length in
-      record {
-        primary = omega (arith, primary-inside, s .inside, s .within);
-        secondary = omega (arith, s .parts .secondary-last, s .inside, s .within);
-        delete-id = omega (arith, start-inside (r .kind) (h .contents .kind), primary-inside, s .inside, s .within);
-      }
+  pub rules : isValid (textsIn pack (r .identifier)) ≡ true
+  rules = record-valid packLimit pack at _ _ (here .is)
 
   -- ---- the words
 
-  place-told : (place : ℕ) (k : Kind) → kindWords (kindWords place k .start) k ≡ kindWords place k
-  place-told place block = refl
-  place-told place (version deleted) = refl
-  place-told place (versionDelete id) = refl
-
-  part-is : part ≡ take (r .told .primary .len) (drop by pack)
-  part-is = part-of-part pack (at + 32) len (h .inside) (r .told .primary .start) (r .told .primary .len) primary-inside
-
-  delete-text : (k : declared-kind.Kind) → KindInside part k → (id : List ℕ) → kindIn part k ≡ versionDelete id → TextAt pack id by (kindWords (by + startIn k) (kindIn part k) .start) (by + r .told .primary .len)
-  delete-text Block i id q = absurd-numbers (cc)
-  delete-text (Version deleted) i id q = absurd-numbers (cc)
-  delete-text (VersionDelete t) i id q =
-      let e : partAt part t ≡ id = cc in
-      let within : t .start + t .len ≤ r .told .primary .len = omega (arith, i .delete-id t refl .end, part-length) in
-      let l = length-part part t (i .delete-id t refl) in
-      let there : partAt part t ≡ take (t .len) (drop (by + t .start) pack) = ap (λ p. take (t .len) (drop (t .start) p)) part-is ∙ part-of-part pack by (r .told .primary .len) (omega (arith, primary-inside, h .inside)) (t .start) (t .len) within in
-      subst (λ u. TextAt pack u by (by + t .start) (by + r .told .primary .len)) e (record { after = omega arith; inside = omega arith; is = rw l (sym there) })
-
-  abbrev kind-words : KindWords
-  kind-words = kindWords (by + startIn (r .kind)) (kindIn part (r .kind))
-
-  word-14 : (words : List ℕ) (k : KindWords) (n : ℕ) → getD (overwritten words 0 (recordWords (at + 32) len (r .told) k n)) 14 0 ≡ k .start
+  word-14 : (words : List ℕ) (t : Told) (k : KindWords) (n : ℕ) → getD (overwritten words 0 (recordWords (at + 32) (value .len) t k n)) 14 0 ≡ k .start
   unfolding overwritten recordWords
-  word-14 words k n = refl
+  word-14 words t k n = refl
 
-  all-stored : (words : List ℕ) (k : KindWords) (n : ℕ) → 16 ≤ length words
-      → writtenBytes words 0 (recordWords (at + 32) len (r .told) k n) ≡ overwritten words 0 (recordWords (at + 32) len (r .told) k n)
+  all-stored : (words : List ℕ) (t : Told) (k : KindWords) (n : ℕ) → 16 ≤ length words
+      → writtenBytes words 0 (recordWords (at + 32) (value .len) t k n) ≡ overwritten words 0 (recordWords (at + 32) (value .len) t k n)
   unfolding recordWords
-  all-stored words k n enough = written-within words 0 _ enough
+  all-stored words t k n enough = written-within words 0 _ enough
 
-  pub told-holds : (words bytes : List ℕ) (n : ℕ) → 16 ≤ length words → (list : List ℕ) → list ≡ recordWords (at + 32) len (r .told) kind-words n
-      → (told id : List ℕ) → told ≡ writtenBytes words 0 list → TextWritten (textsIn part (r .identifier)) bytes n id → RecordHolds pack at words bytes (answer 0 0) told id
+  pub told-holds : (words bytes : List ℕ) (n : ℕ) → 16 ≤ length words
+      → (list : List ℕ) → list ≡ recordWords (value .start) (value .len) (here .told) (kindTold (r .kind)) n
+      → (told id : List ℕ) → told ≡ writtenBytes words 0 list → TextWritten (textsIn pack (r .identifier)) bytes n id → RecordHolds pack at words bytes (answer 0 0) told id
   unfolding outcome
   told-holds words bytes n enough list are told id put w =
-      let stored : told ≡ overwritten words 0 (recordWords (at + 32) len (r .told) kind-words n)
-      = put ∙ ap (writtenBytes words 0) are ∙ all-stored words kind-words n enough in
-      let is : outcome pack at (length words) (length bytes) ≡ there value (recordIn value r)
-      = rw (h .is, le-leb 16 (length words) enough, le-leb (length (compositeText (textsIn part (r .identifier)))) (length bytes) (w .room)) in
-      let place : getD told 14 0 ≡ kind-words .start = ap (λ l. getD l 14 0) stored ∙ word-14 words kind-words n in
+      let t = here .told in
+      let k = kindTold (r .kind) in
+      let stored : told ≡ overwritten words 0 (recordWords (at + 32) (value .len) t k n)
+      = put ∙ ap (writtenBytes words 0) (are ∙ ap (λ start. recordWords start (value .len) t k n) start-is) ∙ all-stored words t k n enough in
+      let is : outcome pack at (length words) (length bytes) ≡ there (partAt pack value) (read t)
+      = rw (here .is, le-leb 16 (length words) enough, le-leb (length (compositeText (textsIn pack (r .identifier)))) (length bytes) (w .room)) in
+      let place : getD told 14 0 ≡ k .start = ap (λ l. getD l 14 0) stored ∙ word-14 words t k n in
+      let kind-is = words-told pack _ (h .places .told .primary) (r .kind) (h .places .contents .delete-id) in
       record {
         answers = rw is;
-        words-told = rw (is, value-length, place, ← w .size) (stored ∙ ap (λ k. overwritten words 0 (recordWords (at + 32) len (r .told) k n)) (sym (place-told (by + startIn (r .kind)) (kindIn part (r .kind)))));
+        words-told = rw (is, length-part pack value (h .value .inside), place, kind-is, ← w .size) stored;
         text-told = rw is (w .is);
         delete-id = rw (is, place) (record { text = by-kind });
       }
     where
-      by-kind : (v : List ℕ) (x : Record) (u : List ℕ) → there value (recordIn value r) ≡ there v x → x .contents .kind ≡ versionDelete u
-          → TextAt pack u (at + 32 + x .told .primary .start) (kind-words .start) (at + 32 + x .told .primary .start + x .told .primary .len)
+      by-kind : (v : List ℕ) (x : Record) (u : List ℕ) → there (partAt pack value) (read (here .told)) ≡ there v x → x .contents .kind ≡ versionDelete u
+          → TextAt pack u (at + 32 + x .told .primary .start) (kindTold (r .kind) .start) (at + 32 + x .told .primary .start + x .told .primary .len)
       by-kind v x u p q =
-          let same : recordIn value r ≡ x = cc in
-          rw (← same) (delete-text (r .kind) (h .contents .kind) u (ap (λ (y : Record). y .contents .kind) same ∙ q))
+          let same : read (here .told) ≡ x = cc in
+          let from : r .told ≡ toldFrom (at + 32) (here .told) = subst (λ n. r .told ≡ toldFrom n (here .told)) start-is (here .from) in
+          rw (← same) (rw from at (delete-text pack _ (h .places .told .primary) (r .kind) (h .places .contents .delete-id) u (ap (λ (y : Record). y .contents .kind) same ∙ q)))

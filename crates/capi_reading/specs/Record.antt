@@ -1,17 +1,18 @@
 -- One record at a place of a pack: the answer, sixteen words, and the composite text of its identifier.
-use Prim.Native.Nat.{ℕ, _+_, _≤_, _<_, _^_}
+use Prim.Native.Nat.{ℕ, _+_, _≤_}
 use mathlib.Core.Bool.{cond, _&&_}
 use mathlib.Core.List.{List, [], _∷_, _++_}
 use mathlib.Core.Path.{_≡_}
 use lib.Dec.{leb}
 use lib.ListN.{length, getD, take, drop}
 use Rattle.slices.specs.Overwriting.{overwritten}
+use Rattle.slices.specs.Places.{partAt}
+use Rattle.slices.specs.declared.Place.{Place}
 use Rattle.refusals.specs.Limit.{packLimit}
 use Rattle.identifier.specs.Composite.{compositeText}
-use Rattle.value.specs.declared.Part.{Part}
 use Rattle.value.specs.declared.Told.{Told}
-use Rattle.records.specs.Record.{blockTag, versionTag, versionDeleteTag, Kind, block, version, versionDelete, Record, primaryIn, AtPlace, there, refusedAt, alone, recordAt}
-use Rattle.records.specs.Answers.{recordIn, ContentsInside}
+use Rattle.records.specs.Record.{blockTag, versionTag, versionDeleteTag, Kind, block, version, versionDelete, Record, AtPlace, there, refusedAt, alone, recordAt, toldFrom, thereFrom}
+use Rattle.records.specs.Answers.{recordIn, PlacesInside, IsValue}
 use Rattle.records.specs.declared.Kind as declared-kind
 use Rattle.records.specs.declared.Kind.the-variants as kind-answer
 use Rattle.records.specs.declared.Record as declared-record
@@ -35,13 +36,6 @@ recordAnswer (refusedAt number place) = answer number place
 recordAnswer (alone number) = answer number 0
 
 -- ---- the words
-
--- the parts of a value that starts at a place of the pack, as places of the pack
-abbrev pub partFrom : ℕ → Part → Part
-partFrom by p = record { start = by + p .start; len = p .len; compression = p .compression; encrypted = p .encrypted }
-
-abbrev pub toldFrom : ℕ → Told → Told
-toldFrom by t = record { version = t .version; primary = partFrom by (t .primary); present = t .present; secondary = partFrom by (t .secondary) }
 
 -- tag, delete flag, and start and length of a delete identifier, which stands at the place
 abbrev pub kindWords : ℕ → Kind → KindWords
@@ -90,20 +84,14 @@ pub record RecordHolds (pack : List ℕ) (at : ℕ) (words bytes : List ℕ) (r 
 
 -- ---- for the private functions
 
--- where a kind tells that its delete identifier starts, in the primary part
-abbrev pub startIn : declared-kind.Kind → ℕ
-startIn kind-answer.Block = 0
-startIn (kind-answer.Version deleted) = 0
-startIn (kind-answer.VersionDelete id) = id .start
+-- the words of a kind, as it is told
+abbrev pub kindTold : declared-kind.Kind → KindWords
+kindTold kind-answer.Block = record { tag = blockTag; deleted = 0; start = 0; len = 0 }
+kindTold (kind-answer.Version deleted) = record { tag = versionTag; deleted = flag deleted; start = 0; len = 0 }
+kindTold (kind-answer.VersionDelete id) = record { tag = versionDeleteTag; deleted = 0; start = id .start; len = id .len }
 
--- the places that are told are words
-pub record PlacesFit (start : ℕ) (r : declared-record.Record) : Type 0 where
-  pub primary : start + r .told .primary .start < 2 ^ 64
-  pub secondary : start + r .told .secondary .start < 2 ^ 64
-  pub delete-id : start + r .told .primary .start + startIn (r .kind) < 2 ^ 64
-
--- a record that stands at a place, with a value of so many bytes
-pub record IsRecord (pack : List ℕ) (at len : ℕ) (r : declared-record.Record) : Type 0 where
-  pub inside : at + 32 + len ≤ length pack
-  pub is : recordAt packLimit pack at ≡ there (take len (drop (at + 32) pack)) (recordIn (take len (drop (at + 32) pack)) r)
-  pub contents : ContentsInside (primaryIn (take len (drop (at + 32) pack)) (r .told)) (r .identifier) (r .kind)
+-- a record that was read at a place, with its value at another
+pub record IsRecord (pack : List ℕ) (at : ℕ) (v : Place) (r : declared-record.Record) : Type 0 where
+  pub is : there (partAt pack v) (recordIn pack r) ≡ thereFrom (at + 32) (recordAt packLimit pack at)
+  pub value : IsValue pack at v
+  pub places : PlacesInside pack r

@@ -1,12 +1,12 @@
 // One record at a place of a pack: sixteen words, and the composite text of its identifier.
 ghost use mathlib.Core.Path.{_≡_};
 ghost use mathlib.Core.Option.{some};
-ghost use mathlib.Core.List.{List};
-ghost use Prim.Native.Nat.{ℕ, _+_, _<_, _^_};
+ghost use Prim.Native.Nat.{ℕ};
 ghost use Rattle.identifier.specs.Writing.{outcomeOf, outcome, left};
+ghost use Rattle.value.specs.declared.Told.{Told};
 ghost use Rattle.primary.specs.Answers.{textsIn};
-ghost use Rattle.records.specs.Answers.{kindIn, KindInside};
-ghost use Rattle.capi_reading.specs.Record.{RecordHolds, partFrom, toldFrom, kindWords, recordWords, startIn, PlacesFit, IsRecord};
+ghost use Rattle.records.specs.Record.{toldFrom};
+ghost use Rattle.capi_reading.specs.Record.{RecordHolds, recordWords, kindTold, IsRecord};
 use crate::values;
 use identifier::Written;
 use primary::Texts;
@@ -14,38 +14,6 @@ use records::AtPlace;
 use records::Kind;
 use records::Record;
 use slices::Place;
-use tlv::RecordHeader;
-use value::Part;
-use value::Told;
-
-// ---- places of the pack
-
-// A part of a value that starts at a place of the pack.
-fn part_from(by: usize, p: Part) -> Part
-    requires { ⌜ by + p .start < 2 ^ 64 ⌝ }
-    ensures { λ r. ⌜ r ≡ partFrom by p ⌝ }
-{
-    Part {
-        start: by + p.start,
-        len: p.len,
-        compression: p.compression,
-        encrypted: p.encrypted,
-    }
-}
-
-fn told_from(by: usize, t: Told) -> Told
-    requires { ⌜ (by + t .primary .start < 2 ^ 64) × (by + t .secondary .start < 2 ^ 64) ⌝ }
-    ensures { λ r. ⌜ r ≡ toldFrom by t ⌝ }
-{
-    let primary = part_from(by, t.primary);
-    let secondary = part_from(by, t.secondary);
-    Told {
-        version: t.version,
-        primary,
-        present: t.present,
-        secondary,
-    }
-}
 
 // ---- the words
 
@@ -57,10 +25,8 @@ struct KindWords {
     len: u64,
 }
 
-// Of a record whose primary part starts at a place of the pack.
-fn kind_words(by: usize, kind: Kind) -> KindWords
-    requires { ⌜ by + startIn kind < 2 ^ 64 ⌝ }
-    ensures { λ r. ⌜ ((part : List ℕ) → KindInside part kind → r ≡ kindWords (by + startIn kind) (kindIn part kind)) ⌝ }
+fn kind_words(kind: Kind) -> KindWords
+    ensures { λ r. ⌜ r ≡ kindTold kind ⌝ }
 {
     match kind {
         Kind::Block => KindWords {
@@ -78,28 +44,24 @@ fn kind_words(by: usize, kind: Kind) -> KindWords
         Kind::VersionDelete(id) => KindWords {
             tag: records::VERSION_DELETE as u64,
             deleted: 0,
-            start: (by + id.start) as u64,
+            start: id.start as u64,
             len: id.len as u64,
         },
     }
 }
 
-// Of a record whose value, of len bytes, starts at a place of the pack, and whose identifier's text has
-// so many bytes.
-fn record_words(start: usize, len: usize, r: Record, text: usize) -> [u64; 16]
-    requires { ⌜ PlacesFit start r ⌝ }
-    ensures { λ x. ⌜ ((part : List ℕ) → KindInside part (r .kind) → x
-        ≡ recordWords start len (r .told)
-        (kindWords (start + r .told .primary .start + startIn (r .kind)) (kindIn part (r .kind))) text) ⌝ }
+// Of a record with its value at this place, whose identifier's text has so many bytes.
+fn record_words(value: Place, r: Record, text: usize) -> [u64; 16]
+    ensures { λ x. ⌜ ((t : Told) → r .told ≡ toldFrom (value .start) t → x
+        ≡ recordWords (value .start) (value .len) t (kindTold (r .kind)) text) ⌝ }
 {
-    let t = told_from(start, r.told);
-    let parts = values::told_words(t);
+    let parts = values::told_words(r.told);
     let kind = r.kind;
-    let k = kind_words(t.primary.start, kind);
+    let k = kind_words(kind);
     [
         k.tag,
-        start as u64,
-        len as u64,
+        value.start as u64,
+        value.len as u64,
         parts[0],
         parts[1],
         parts[2],
@@ -118,41 +80,34 @@ fn record_words(start: usize, len: usize, r: Record, text: usize) -> [u64; 16]
 
 // ---- the composite text
 
-// Of the identifier whose texts stand in the primary part.
-fn write_text(id: &mut [u8], primary: &[u8], t: Texts) -> Written
-    ensures answer { λ r. ⌜ outcomeOf r ≡ outcome (some (textsIn (now (primary .entry)) t)) (now (id .entry)) 0 ⌝ }
-    ensures holds { λ _. ⌜ now (id .exit) ≡ left (some (textsIn (now (primary .entry)) t)) (now (id .entry)) 0 ⌝ }
+// Of the identifier whose texts stand in the pack.
+fn write_text(id: &mut [u8], pack: &[u8], t: Texts) -> Written
+    ensures answer { λ r. ⌜ outcomeOf r ≡ outcome (some (textsIn (now (pack .entry)) t)) (now (id .entry)) 0 ⌝ }
+    ensures holds { λ _. ⌜ now (id .exit) ≡ left (some (textsIn (now (pack .entry)) t)) (now (id .entry)) 0 ⌝ }
 {
     identifier::write_parts(
         id,
         0,
-        slices::part(primary, t.ulid),
-        slices::part(primary, t.bucket),
-        slices::part(primary, t.object),
+        slices::part(pack, t.ulid),
+        slices::part(pack, t.bucket),
+        slices::part(pack, t.object),
     )
 }
 
 // ---- the record
 
-// The record that stands at a place, with a value of len bytes, where there is room for all it tells.
-fn tell(pack: &[u8], at: usize, len: usize, r: Record, told: &mut [u64], id: &mut [u8]) -> u64
-    requires { ⌜ IsRecord (now pack) at len r ⌝ }
-    ensures { λ x. ⌜ RecordHolds (now (pack .entry)) at (now (told .entry)) (now (id .entry)) x (now (told .exit)) (now (id .exit)) ⌝ }
+// A record that was read, with its value at this place, where there is room for all it tells.
+fn tell(pack: &[u8], value: Place, r: Record, told: &mut [u64], id: &mut [u8]) -> u64
+    ensures { λ x. ⌜ ((at : ℕ) → IsRecord (now (pack .entry)) at value r
+        → RecordHolds (now (pack .entry)) at (now (told .entry)) (now (id .entry)) x (now (told .exit)) (now (id .exit))) ⌝ }
 {
     if told.len() < 16 {
         return words::answer(19, 0);
     }
-    let start = at + RecordHeader::LENGTH;
-    let value = slices::part(pack, Place { start, len });
-    let primary = r.told.primary;
-    let place = Place {
-        start: primary.start,
-        len: primary.len,
-    };
-    let Written::Bytes(n) = write_text(id, slices::part(value, place), r.identifier) else {
+    let Written::Bytes(n) = write_text(id, pack, r.identifier) else {
         return words::answer(19, 0);
     };
-    words::store(told, 0, &record_words(start, len, r, n));
+    words::store(told, 0, &record_words(value, r, n));
     words::answer(0, 0)
 }
 
@@ -164,11 +119,7 @@ pub extern "C" fn vof_record(pack: &[u8], at: usize, told: &mut [u64], id: &mut 
     ensures { λ x. ⌜ RecordHolds (now (pack .entry)) at (now (told .entry)) (now (id .entry)) x (now (told .exit)) (now (id .exit)) ⌝ }
 {
     match records::read_at(pack, at) {
-        AtPlace::Record {
-            record,
-            start: _,
-            len,
-        } => tell(pack, at, len, record, told, id),
+        AtPlace::Record { record, value } => tell(pack, value, record, told, id),
         AtPlace::Outside => words::answer(20, 0),
         AtPlace::TooLong => words::answer(1, 0),
         AtPlace::Fault(f, place) => words::answer(tlv::number(f), place),

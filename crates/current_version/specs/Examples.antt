@@ -17,17 +17,18 @@ use Rattle.pack.specs.Reading.{records, reading}
 use Rattle.msgpack.specs.Formats.{formats, formatOf}
 use Rattle.msgpack.specs.Items.{headOf, passItems, passHead, passItem}
 use Rattle.msgpack.specs.Readers.{isWhole, contentAt, readBoolean, integerOf, readInteger, countAt}
-use Rattle.msgpack.specs.Lookup.{keyAt, lastWhere, lastValue, under}
+use Rattle.msgpack.specs.Lookup.{keyAt, lastWhere, lastValue}
+use Rattle.msgpack.specs.Views.{textAt, itemsFrom}
 use Rattle.identifier.specs.Texts.{member, all, less}
 use Rattle.identifier.specs.Ulid.{alphabet, isCharacter, isUlid}
 use Rattle.identifier.specs.Identity.{sized, isBucket, isObject, identity, isValid, identityOf, sameIdentity}
 use Rattle.identifier.specs.Held.{hasName}
-use Rattle.value.specs.Fields.{readNatural, naturalUnder, bytesUnder, isThere}
+use Rattle.value.specs.Fields.{naturalUnder, bytesUnder, isThere}
 use Rattle.value.specs.Header.{withMap, withList, header}
 use Rattle.value.specs.Header as value-header
 use Rattle.value.specs.Reading as value
 use Rattle.primary.specs.Parts as primary
-use Rattle.primary.specs.Parts.{fills, textAt, textUnder, textsUnder, deletedUnder, ulidOf}
+use Rattle.primary.specs.Parts.{fills, textUnder, textsUnder, deletedUnder, ulidOf}
 use Rattle.records.specs.Record.{blockTag, versionTag, versionDeleteTag, isKnown, contents, toldRows, readRecord}
 use Rattle.current_version.specs.Current.{isLookedAt, role, Version, versionOf, filtered, better, best, deletes, isDeleted, isLive, current, Answer, nothing, found, refusedAt, alone, readability, answerIn, isName, lookup}
 use Rattle.current_version.specs.Order.{howOften, SameRecords}
@@ -149,8 +150,8 @@ pub rows-hold : map (λ (r : Row). lookup packLimit (r .pack) (r .bucket) (r .ob
 unfolding rows layouts layout head fields bytesOf bigBytes littleBytes little big add mul rotl foldHigh lane taken round
     mergeAccumulator converge stripes consume8 consume4 consume1 consume avalanche xxh64 field headerRows valueRows
     lowest headerOf step records reading passItem passHead passItems headOf isWhole contentAt readBoolean integerOf
-    readInteger countAt keyAt sameBytes lastWhere lastValue under formatOf formats numberAt holds readNatural
-    naturalUnder bytesUnder isThere value-header.alone withMap withList header value.reading fills textAt textUnder
+    readInteger countAt keyAt sameBytes lastWhere lastValue itemsFrom formatOf formats numberAt holds
+    naturalUnder bytesUnder isThere value-header.alone value-header.telling withMap withList header value.reading fills textAt textUnder
     textsUnder deletedUnder ulidOf primary.version primary.versionDelete isUlid isCharacter alphabet isBucket isObject
     isValid identityOf sized member all isKnown contents toldRows readRecord isLookedAt role less hasName sameIdentity
     versionOf filtered better best deletes isDeleted isLive current readability answerIn isName lookup

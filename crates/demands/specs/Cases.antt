@@ -17,9 +17,10 @@ use Rattle.pack.specs.Reading as pack
 use Rattle.msgpack.specs.Formats.{formats, formatOf}
 use Rattle.msgpack.specs.Items.{headOf, passItems, passHead, passItem}
 use Rattle.msgpack.specs.Readers.{isWhole, contentAt, integerOf, readInteger, countAt}
-use Rattle.msgpack.specs.Lookup.{keyAt, lastWhere, lastValue, under}
-use Rattle.value.specs.Fields.{readNatural, naturalUnder, bytesUnder, isThere}
-use Rattle.value.specs.Header.{part, alone, withMap, withList, header}
+use Rattle.msgpack.specs.Lookup.{keyAt, lastWhere, lastValue}
+use Rattle.msgpack.specs.Views.{itemsFrom}
+use Rattle.value.specs.Fields.{naturalUnder, bytesUnder, isThere}
+use Rattle.value.specs.Header.{coding, part, alone, telling, withMap, withList, header}
 use Rattle.value.specs.Reading as value
 use Rattle.value.specs.declared.Told.{Told}
 
@@ -101,7 +102,7 @@ cases =
     ∷ packRefused (set sample 31 0x15) 6 0
     ∷ packRefused (set sample 45 0x62) 8 0
     -- K, a value with both parts; L, its first 39 bytes
-    ∷ valueCase valueSample (refusals.result (record { version = 0; primary = part 12 16 0 false; present = true; secondary = part 28 12 0 false }))
+    ∷ valueCase valueSample (refusals.result (record { version = 0; primary = part 12 16 (coding 0 false); present = true; secondary = part 28 12 (coding 0 false) }))
     ∷ valueCase (take 39 valueSample) (refusals.refused 12)
     -- M: the empty map, and the empty value
     ∷ valueCase (0x80 ∷ []) (refusals.refused 11)
@@ -114,6 +115,6 @@ cases =
 pub cases-hold : map (λ (c : Case). answer (c .asked) (c .bytes)) cases ≡ map (λ (c : Case). c .answered) cases
 unfolding little big add mul rotl foldHigh lane taken round mergeAccumulator converge stripes consume8 consume4 consume1
     consume avalanche xxh64 field headerRows valueRows lowest headerOf step pack.records pack.reading passItem passHead
-    passItems headOf isWhole contentAt integerOf readInteger countAt keyAt sameBytes lastWhere lastValue under formatOf
-    formats numberAt holds readNatural naturalUnder bytesUnder isThere alone withMap withList header value.reading
+    passItems headOf isWhole contentAt integerOf readInteger countAt keyAt sameBytes lastWhere lastValue itemsFrom formatOf
+    formats numberAt holds naturalUnder bytesUnder isThere alone telling withMap withList header value.reading
 cases-hold = refl

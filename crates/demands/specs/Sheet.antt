@@ -13,9 +13,10 @@ use Rattle.slices.specs.Logic.{absurd-numbers}
 use Rattle.refusals.specs.Sheet.{lowest}
 use Rattle.refusals.specs.Answers.{Answer, refused, result, orRefused, unless}
 use Rattle.msgpack.specs.Items.{Passage, whole, cut, tooDeep, passOver}
+use Rattle.msgpack.specs.Views.{byteView}
 use Rattle.identifier.specs.Ulid.{isUlid}
 use Rattle.identifier.specs.Identity.{Identity, isValid, identityOf}
-use Rattle.value.specs.Header.{header}
+use Rattle.value.specs.Header.{header, tellingOf}
 use Rattle.value.specs.Reading as value
 use Rattle.value.specs.declared.Told.{Told}
 use Rattle.primary.specs.Parts as primary
@@ -30,11 +31,11 @@ use Rattle.current_version.specs.Current.{isLookedAt}
 -- 16 to 18, of a primary part
 pub data PartApplies (tag : ℕ) (part : List ℕ) : ℕ → Type 0 where
   part-not-filled : fills part ≡ false → PartApplies tag part 16
-  no-identifier : textsUnder part ≡ none → PartApplies tag part 17
-  no-boolean : tag ≡ versionTag → deletedUnder part ≡ none → PartApplies tag part 17
-  no-delete-identifier : tag ≡ versionDeleteTag → textUnder deleteIdKey part ≡ none → PartApplies tag part 17
-  identifier-breaks-rules : (i : Identity) → textsUnder part ≡ some i → isValid i ≡ false → PartApplies tag part 18
-  delete-identifier-breaks-rules : tag ≡ versionDeleteTag → (t : List ℕ) → textUnder deleteIdKey part ≡ some t → isUlid t ≡ false → PartApplies tag part 18
+  no-identifier : textsUnder byteView part ≡ none → PartApplies tag part 17
+  no-boolean : tag ≡ versionTag → deletedUnder byteView part ≡ none → PartApplies tag part 17
+  no-delete-identifier : tag ≡ versionDeleteTag → textUnder byteView deleteIdKey part ≡ none → PartApplies tag part 17
+  identifier-breaks-rules : (i : Identity) → textsUnder byteView part ≡ some i → isValid i ≡ false → PartApplies tag part 18
+  delete-identifier-breaks-rules : tag ≡ versionDeleteTag → (t : List ℕ) → textUnder byteView deleteIdKey part ≡ some t → isUlid t ≡ false → PartApplies tag part 18
 
 -- 9 to 12 of a value; 14 to 18 where none of these applies, so that the value tells t
 pub data Applies (limit tag : ℕ) (s : List ℕ) : ℕ → Type 0 where
@@ -87,17 +88,17 @@ module _ (tag : ℕ) (part : List ℕ) (n : ℕ) where
   version-refused : tag ≡ versionTag → primary.version part ≡ refused n → At n
   unfolding primary.version
   version-refused is e =
-      filled (versionBy (textsUnder part) (deletedUnder part)) e λ f.
-      step 17 n (textsUnder part) _ f (λ m p. subst At m (no-identifier p)) λ i p g.
-      step 17 n (deletedUnder part) _ g (λ m q. subst At m (no-boolean is q)) λ d q h.
+      filled (versionBy (textsUnder byteView part) (deletedUnder byteView part)) e λ f.
+      step 17 n (textsUnder byteView part) _ f (λ m p. subst At m (no-identifier p)) λ i p g.
+      step 17 n (deletedUnder byteView part) _ g (λ m q. subst At m (no-boolean is q)) λ d q h.
       step 18 n (valid i) _ h (λ m r. subst At m (identifier-breaks-rules i p (valid-none i r))) λ j r k. absurd-numbers (cc)
 
   delete-refused : tag ≡ versionDeleteTag → primary.versionDelete part ≡ refused n → At n
   unfolding primary.versionDelete
   delete-refused is e =
-      filled (versionDeleteBy (textsUnder part) (textUnder deleteIdKey part)) e λ f.
-      step 17 n (textsUnder part) _ f (λ m p. subst At m (no-identifier p)) λ i p g.
-      step 17 n (textUnder deleteIdKey part) _ g (λ m q. subst At m (no-delete-identifier is q)) λ t q h.
+      filled (versionDeleteBy (textsUnder byteView part) (textUnder byteView deleteIdKey part)) e λ f.
+      step 17 n (textsUnder byteView part) _ f (λ m p. subst At m (no-identifier p)) λ i p g.
+      step 17 n (textUnder byteView deleteIdKey part) _ g (λ m q. subst At m (no-delete-identifier is q)) λ t q h.
       step 18 n (valid i) _ h (λ m r. subst At m (identifier-breaks-rules i p (valid-none i r))) λ j r k.
       step 18 n (ulidOf t) _ k (λ m u. subst At m (delete-identifier-breaks-rules is t q (ulid-none t u))) λ v u l. absurd-numbers (cc)
 
@@ -157,7 +158,7 @@ module _ (limit tag : ℕ) (s : List ℕ) (n : ℕ) where
       by tooDeep p f = subst Here (cc) (depth-17 p)
 
   told-refused : (t : Told) → isLookedAt tag ≡ true → isKnown tag ≡ true → value.reading limit s ≡ result t
-      → unless (lowest (toldRows tag t)) (withTold t (contents tag (primaryIn s t))) ≡ refused n → Here n
+      → unless (lowest (toldRows tag (tellingOf t))) (withTold t (contents tag (primaryIn s t))) ≡ refused n → Here n
   unfolding toldRows lowest
   told-refused t looked known w e = version-test (eqb (t .version) 0) refl (rw known at e)
     where

@@ -6,7 +6,6 @@ use mathlib.Core.Option.{Option, none, some}
 use mathlib.Core.Path.{_≡_}
 use lib.Dec.{eqb}
 use lib.ListN.{length, take, drop}
-use Rattle.slices.specs.Places.{shiftPlace}
 use Rattle.refusals.specs.Limit.{packLimit}
 use Rattle.tlv.specs.Found as tlv
 use Rattle.pack.specs.Reading.{Ending, whole, refused}
@@ -31,24 +30,15 @@ use Rattle.lookup.specs.declared.Surveyed.the-variants as surveyed-answe
 use Rattle.lookup.specs.declared.Found.{Found}
 use Rattle.lookup.specs.declared.Found.the-variants as found-answer
 
--- ---- from places of a part to places of the pack
+-- ---- what a record is
 
-abbrev pub shiftTexts : ℕ → Texts → Texts
-shiftTexts by t = record { ulid = shiftPlace by (t .ulid); bucket = shiftPlace by (t .bucket); object = shiftPlace by (t .object) }
+-- with this identifier, by its kind
+abbrev pub roleFor : Texts → records-kind.Kind → declared-role.Role
+roleFor t kind-answer.Block = role-answer.Other
+roleFor t (kind-answer.Version deleted) = role-answer.Version t deleted
+roleFor t (kind-answer.VersionDelete id) = role-answer.Deletion t
 
--- all of them end within n bytes
-pub record AllFrom (by : ℕ) (t : Texts) (n : ℕ) : Type 0 where
-  pub ulid : by + (t .ulid .start + t .ulid .len) ≤ n
-  pub bucket : by + (t .bucket .start + t .bucket .len) ≤ n
-  pub object : by + (t .object .start + t .object .len) ≤ n
-
--- what a record with this identifier is, by its kind
-abbrev pub roleFor : ℕ → Texts → records-kind.Kind → declared-role.Role
-roleFor by t kind-answer.Block = role-answer.Other
-roleFor by t (kind-answer.Version deleted) = role-answer.Version (shiftTexts by t) deleted
-roleFor by t (kind-answer.VersionDelete id) = role-answer.Deletion (shiftTexts by t)
-
--- what a record is, if those of one tag are not read
+-- if those of one tag are not read
 unfoldable pub roleBut : ℕ → ℕ → ℕ → List ℕ → Role
 roleBut limit skipped tag value = cond (eqb tag skipped) other (role limit tag value)
 

@@ -3,6 +3,7 @@ pub mod Items
 pub mod Readers
 pub mod Lookup
 pub mod Pairs
+pub mod Views
 pub mod HeadLaws
 pub mod PassingLaws
 pub mod ReaderLaws

@@ -1,6 +1,6 @@
 -- The value of a text key in a map: keys are compared as bytes, in every width of text, and of a repeated key the last counts (document 01, "The value").
 use Prim.Native.Nat.{ℕ, zero, suc, _+_}
-use mathlib.Core.Bool.{Bool, false, cond}
+use mathlib.Core.Bool.{Bool, true, false, cond}
 use mathlib.Core.List.{List}
 use mathlib.Core.Option.{Option, none, some}
 use lib.Dec.{eqb}
@@ -18,11 +18,15 @@ contentIs key s none = false
 unfoldable pub keyAt : List ℕ → List ℕ → Bool
 keyAt key s = contentIs key s (readText s)
 
--- where a value stands
-pub data ValuePlace : Type 0 where
-  found : ℕ → ValuePlace
-  missing : ValuePlace
-  broken : ValuePlace  -- no whole map is there
+-- what stands under a key of a map, I being how an item is told
+pub data Under (I : Type 0) : Type 0 where
+  found : I → Under I
+  missing : Under I
+  broken : Under I  -- no whole map is there
+
+-- where it stands
+abbrev pub ValuePlace : Type 0
+ValuePlace = Under ℕ
 
 abbrev pub ifWhole : Passage → (ℕ → ValuePlace) → ValuePlace
 ifWhole (whole n) next = next n
@@ -47,19 +51,26 @@ lastValue key s =
     (lastWhere (passItem depthAllowed) (keyAt key) (headOf s .count) (headOf s .size) (drop (headOf s .size) s) missing)
     broken
 
--- ---- what stands under a key
+-- ---- what is read of it
 
--- by where the last value of a key stands: `read` tells what is there; `absent` is told where the map has no such key; none where there is no map
-abbrev pub atPlace : {A : Type 0} → Option A → (ℕ → Option A) → ValuePlace → Option A
-atPlace absent read (found p) = read p
+-- `read` tells what was found; `absent` is told where the map has no such key; none where there is no map
+abbrev pub atPlace : {A I : Type 0} → Option A → (I → Option A) → Under I → Option A
+atPlace absent read (found i) = read i
 atPlace absent read missing = absent
 atPlace absent read broken = none
 
--- the last value of `key` in the map m
-unfoldable pub under : {A : Type 0} → List ℕ → List ℕ → Option A → (ℕ → Option A) → Option A
-under key m absent read = atPlace absent read (lastValue key m)
+-- a key that is there counts as there whatever its value, nil included
+abbrev pub isFound : {I : Type 0} → Under I → Bool
+isFound (found i) = true
+isFound missing = false
+isFound broken = false
 
 -- `next` of what is there
 abbrev pub ifThere : {A B : Type 0} → Option A → (A → Option B) → Option B
 ifThere (some a) next = next a
 ifThere none next = none
+
+-- what f makes of it
+abbrev pub over : {A B : Type 0} → (A → B) → Option A → Option B
+over f (some a) = some (f a)
+over f none = none

@@ -11,5 +11,6 @@ pub mod Unique
 pub mod Bytes
 pub mod Readers
 pub mod Lookup
+pub mod Views
 pub mod Writers
 pub mod Range

@@ -13,10 +13,11 @@ use Rattle.slices.specs.declared.Place.{Place}
 use Rattle.msgpack.specs.Formats.{textKind}
 use Rattle.msgpack.specs.Readers.{part, readText}
 use Rattle.msgpack.specs.ReaderLaws.{part-inside}
-use Rattle.msgpack.specs.Lookup.{lastValue, atPlace, under}
+use Rattle.msgpack.specs.Lookup.{lastValue, atPlace}
 use Rattle.msgpack.specs.Pairs.{placeTold}
 use Rattle.msgpack.specs.PairLaws.{told-inside}
-use Rattle.primary.specs.Parts.{textAt, textUnder}
+use Rattle.msgpack.specs.Views.{textAt, byteView, read-front}
+use Rattle.primary.specs.Parts.{textUnder}
 use Rattle.primary.specs.Answers.{AllInside, TextInside, TextsInside}
 use Rattle.primary.specs.declared.Texts.{Texts}
 use Rattle.primary.specs.declared.TextRead.the-variants as text-answer
@@ -62,9 +63,9 @@ module _ (s : List ℕ) (at : ℕ) (within : at ≤ length s) where
 
 -- ---- the text under a key, by the place told of it
 
-pub text-told : (key m : List ℕ) (p : ℕ) → lastValue key m ≡ placeTold p → atPlace none (λ n. textAt (drop n m)) (placeTold p) ≡ textUnder key m
-unfolding textUnder under
-text-told key m p e = rw e
+pub text-told : (key m : List ℕ) (p : ℕ) → lastValue key m ≡ placeTold p → atPlace none (λ n. textAt (drop n m)) (placeTold p) ≡ textUnder byteView key m
+unfolding textUnder
+text-told key m p e = rw e (sym (read-front none textAt m (placeTold p)))
 
 -- inside the part
 pub told-within : (s : List ℕ) (at : ℕ) → at ≤ length s → (key : List ℕ) (p : ℕ) → lastValue key (drop at s) ≡ placeTold p → at + p ≤ length s

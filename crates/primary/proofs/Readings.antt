@@ -3,7 +3,7 @@ use Prim.Native.Nat.{ℕ}
 use mathlib.Core.Bool.{Bool, true, false, cond}
 use mathlib.Core.List.{List}
 use mathlib.Core.Option.{Option, none, some}
-use mathlib.Core.Path.{_≡_, refl, ap, subst, _∙_}
+use mathlib.Core.Path.{_≡_, refl, sym, ap, subst, _∙_}
 use borrow.Author.Tests.{eqb-true}
 use lib.ListN.{length, drop}
 use Rattle.slices.specs.Logic.{absurd-numbers}
@@ -11,12 +11,13 @@ use Rattle.slices.specs.Places.{Inside}
 use Rattle.slices.specs.declared.Place.{Place}
 use Rattle.refusals.specs.Answers.{Answer, refused, result}
 use Rattle.msgpack.specs.Items.{Passage, whole, cut, tooDeep, passOver}
-use Rattle.msgpack.specs.Lookup.{ValuePlace, broken, lastValue, atPlace, under}
+use Rattle.msgpack.specs.Lookup.{ValuePlace, broken, lastValue, atPlace}
 use Rattle.msgpack.specs.Pairs.{placeTold}
 use Rattle.msgpack.specs.Readers.{readBoolean}
 use Rattle.identifier.specs.Ulid.{isUlid}
 use Rattle.identifier.specs.Identity.{Identity, isValid, identityOf}
-use Rattle.primary.specs.Parts.{isOfLength, fills, ifFills, textAt, textUnder, textsBy, textsUnder, ulidKey, bucketKey, objectKey, identifierKey, deletedKey, deleteIdKey, deletedUnder, valid, ulidOf, shapeOf, shapeAt, shapeUnder, blockBy, block, versionBy, version, versionDeleteBy, versionDelete}
+use Rattle.msgpack.specs.Views.{textAt, byteView, read-front}
+use Rattle.primary.specs.Parts.{isOfLength, fills, ifFills, textUnder, textsBy, textsUnder, ulidKey, bucketKey, objectKey, identifierKey, deletedKey, deleteIdKey, deletedUnder, valid, ulidOf, shapeOf, shapeAt, shapeUnder, blockBy, block, versionBy, version, versionDeleteBy, versionDelete}
 use Rattle.primary.specs.Answers.{AllInside, BlockInside, VersionInside, DeleteInside}
 use Rattle.primary.specs.declared.Texts.{Texts}
 use Rattle.primary.specs.declared.Fault.{Fault}
@@ -57,21 +58,21 @@ valid-is i t e = rw e
 -- ---- the types
 
 module _ (s : List ℕ) where
-  pub texts-are : (u b o : Option (List ℕ)) → u ≡ textUnder ulidKey s → b ≡ textUnder bucketKey s → o ≡ textUnder objectKey s → textsBy u b o ≡ textsUnder s
+  pub texts-are : (u b o : Option (List ℕ)) → u ≡ textUnder byteView ulidKey s → b ≡ textUnder byteView bucketKey s → o ≡ textUnder byteView objectKey s → textsBy u b o ≡ textsUnder byteView s
   unfolding textsUnder
   texts-are u b o e f g = rw (e, f, g)
 
-  pub no-texts-are : lastValue ulidKey s ≡ broken → none ≡ textsUnder s
-  unfolding textsUnder textUnder under
+  pub no-texts-are : lastValue ulidKey s ≡ broken → none ≡ textsUnder byteView s
+  unfolding textsUnder textUnder
   no-texts-are e = rw e
 
-  pub shape-is : (t : Option (List ℕ)) (i : Option Identity) → t ≡ textAt s → i ≡ textsUnder s → blockBy (shapeOf t i) ≡ blockBy (shapeAt s)
+  pub shape-is : (t : Option (List ℕ)) (i : Option Identity) → t ≡ textAt s → i ≡ textsUnder byteView s → blockBy (shapeOf t i) ≡ blockBy (shapeAt byteView s)
   unfolding shapeAt
   shape-is t i e f = rw (e, f)
 
-  pub flag-told : (p : ℕ) → lastValue deletedKey s ≡ placeTold p → atPlace (some false) (λ n. readBoolean (drop n s)) (placeTold p) ≡ deletedUnder s
-  unfolding deletedUnder under
-  flag-told p e = rw e
+  pub flag-told : (p : ℕ) → lastValue deletedKey s ≡ placeTold p → atPlace (some false) (λ n. readBoolean (drop n s)) (placeTold p) ≡ deletedUnder byteView s
+  unfolding deletedUnder
+  flag-told p e = rw e (sym (read-front (some false) readBoolean s (placeTold p)))
 
 -- ---- the parts
 
@@ -93,26 +94,26 @@ pub not-filled : {A : Type 0} (s : List ℕ) (next : Answer A) → fills s ≡ f
 not-filled s next w = rw w
 
 module _ (s : List ℕ) (w : fills s ≡ true) where
-  pub block-is : (p : ValuePlace) → lastValue identifierKey s ≡ p → blockBy (atPlace none (λ n. shapeAt (drop n s)) p) ≡ block s
-  unfolding block shapeUnder under
-  block-is p e = rw (w, e)
+  pub block-is : (p : ValuePlace) → lastValue identifierKey s ≡ p → blockBy (atPlace none (λ n. shapeAt byteView (drop n s)) p) ≡ block s
+  unfolding block shapeUnder
+  block-is p e = rw (w, e) (ap blockBy (sym (read-front none (shapeAt byteView) s p)))
 
-  pub version-tested : (i : Identity) (d t : Bool) → some i ≡ textsUnder s → some d ≡ deletedUnder s → t ≡ isValid i → cond t (result (record { identifier = i; deleted = d })) (refused 18) ≡ version s
+  pub version-tested : (i : Identity) (d t : Bool) → some i ≡ textsUnder byteView s → some d ≡ deletedUnder byteView s → t ≡ isValid i → cond t (result (record { identifier = i; deleted = d })) (refused 18) ≡ version s
   unfolding version identityOf
   version-tested i d true e f v = rw (w, ← e, ← f, ← v)
   version-tested i d false e f v = rw (w, ← e, ← f, ← v)
 
-  pub delete-tested : (i : Identity) (u : List ℕ) (t v : Bool) → some i ≡ textsUnder s → some u ≡ textUnder deleteIdKey s → t ≡ isValid i → v ≡ isUlid u
+  pub delete-tested : (i : Identity) (u : List ℕ) (t v : Bool) → some i ≡ textsUnder byteView s → some u ≡ textUnder byteView deleteIdKey s → t ≡ isValid i → v ≡ isUlid u
       → cond t (cond v (result (record { identifier = i; deleteId = u })) (refused 18)) (refused 18) ≡ versionDelete s
   unfolding versionDelete identityOf ulidOf
   delete-tested i u true true e f v l = rw (w, ← e, ← f, ← v, ← l)
   delete-tested i u true false e f v l = rw (w, ← e, ← f, ← v, ← l)
   delete-tested i u false v e f v′ l = rw (w, ← e, ← f, ← v′)
 
-  pub version-is : (texts : Option Identity) (flag : Option Bool) → texts ≡ textsUnder s → flag ≡ deletedUnder s → versionBy texts flag ≡ version s
+  pub version-is : (texts : Option Identity) (flag : Option Bool) → texts ≡ textsUnder byteView s → flag ≡ deletedUnder byteView s → versionBy texts flag ≡ version s
   unfolding version
   version-is texts flag e f = rw (w, e, f)
 
-  pub delete-is : (texts : Option Identity) (t : Option (List ℕ)) → texts ≡ textsUnder s → t ≡ textUnder deleteIdKey s → versionDeleteBy texts t ≡ versionDelete s
+  pub delete-is : (texts : Option Identity) (t : Option (List ℕ)) → texts ≡ textsUnder byteView s → t ≡ textUnder byteView deleteIdKey s → versionDeleteBy texts t ≡ versionDelete s
   unfolding versionDelete
   delete-is texts t e f = rw (w, e, f)

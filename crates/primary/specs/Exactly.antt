@@ -12,6 +12,7 @@ use Rattle.identifier.specs.Texts.{member}
 use Rattle.identifier.specs.Ulid.{isUlid}
 use Rattle.identifier.specs.Identity.{slash, Identity, isValid, identityOf}
 use Rattle.identifier.specs.Composite.{compositeText, shapes-agree, text-reads, reads-text}
+use Rattle.msgpack.specs.Views.{byteView}
 use Rattle.primary.specs.Parts.{fills, textUnder, textsUnder, deletedUnder, deleteIdKey, valid, ulidOf, Shape, composite, separate, shapeUnder, identityBy, block, Version, version, VersionDelete, versionDelete}
 
 -- ---- steps that were not refused
@@ -72,7 +73,7 @@ pub data Shows (i : Identity) : Shape → Type 0 where
 pub record BlockNames (s : List ℕ) (i : Identity) : Type 0 where
   pub whole : fills s ≡ true
   pub shape : Shape
-  pub there : shapeUnder s ≡ some shape
+  pub there : shapeUnder byteView s ≡ some shape
   pub shows : Shows i shape
   pub rules : isValid i ≡ true
 
@@ -84,7 +85,7 @@ pub names-block : (s : List ℕ) (i : Identity) → BlockNames s i → block s �
 unfolding block
 names-block s i b = rw (b .whole, b .there, shape-reads i (b .shape) (b .rules) (b .shows))
 
-reads-shape : (s : List ℕ) (i : Identity) (shape : Shape) → fills s ≡ true → shapeUnder s ≡ some shape → identityBy shape ≡ some i → BlockNames s i
+reads-shape : (s : List ℕ) (i : Identity) (shape : Shape) → fills s ≡ true → shapeUnder byteView s ≡ some shape → identityBy shape ≡ some i → BlockNames s i
 reads-shape s i (composite t) w e f =
     let r = reads-text t i f in
     record { whole = w; shape = composite t; there = e; shows = subst (λ u. Shows i (composite u)) (r .1) as-text; rules = r .0 }
@@ -96,7 +97,7 @@ pub block-names : (s : List ℕ) (i : Identity) → block s ≡ result i → Blo
 unfolding block
 block-names s i e =
     let a = filled s _ i (fills s) refl e in
-    let b = step 17 (shapeUnder s) _ i (a .then-read) in
+    let b = step 17 (shapeUnder byteView s) _ i (a .then-read) in
     let c = step 18 (identityBy (b .given)) _ i (b .then-read) in
     let same : c .given ≡ i = cc in
     reads-shape s i (b .given) (a .whole) (b .is) (c .is ∙ ap some same)
@@ -108,7 +109,7 @@ either-shape s t i b d = names-block s i b ∙ sym (names-block t i d)
 -- Where the texts break the rules both shapes are refused alike. (Of a ULID of another length, or a bucket with a slash, a joined text does
 -- not show where it was joined.)
 pub shapes-alike : (s t : List ℕ) (i : Identity) → length (i .ulid) ≡ 26 → member slash (i .bucket) ≡ false → fills s ≡ true → fills t ≡ true
-    → shapeUnder s ≡ some (composite (compositeText i)) → shapeUnder t ≡ some (separate i) → block s ≡ block t
+    → shapeUnder byteView s ≡ some (composite (compositeText i)) → shapeUnder byteView t ≡ some (separate i) → block s ≡ block t
 unfolding block
 shapes-alike s t i l m w v e f = rw (w, v, e, f, shapes-agree (i .ulid) (i .bucket) (i .object) l m)
 
@@ -116,8 +117,8 @@ shapes-alike s t i l m w v e f = rw (w, v, e, f, shapes-agree (i .ulid) (i .buck
 
 pub record VersionNames (s : List ℕ) (v : Version) : Type 0 where
   pub whole : fills s ≡ true
-  pub texts : textsUnder s ≡ some (v .identifier)
-  pub flag : deletedUnder s ≡ some (v .deleted)
+  pub texts : textsUnder byteView s ≡ some (v .identifier)
+  pub flag : deletedUnder byteView s ≡ some (v .deleted)
   pub rules : isValid (v .identifier) ≡ true
 
 pub names-version : (s : List ℕ) (v : Version) → VersionNames s v → version s ≡ result v
@@ -128,8 +129,8 @@ pub version-names : (s : List ℕ) (v : Version) → version s ≡ result v → 
 unfolding version
 version-names s v e =
     let a = filled s _ v (fills s) refl e in
-    let b = step 17 (textsUnder s) _ v (a .then-read) in
-    let c = step 17 (deletedUnder s) _ v (b .then-read) in
+    let b = step 17 (textsUnder byteView s) _ v (a .then-read) in
+    let c = step 17 (deletedUnder byteView s) _ v (b .then-read) in
     let d = step 18 (valid (b .given)) _ v (c .then-read) in
     let r = valid-some (b .given) (d .given) (d .is) in
     let same : record { identifier = d .given; deleted = c .given } ≡ v = cc in
@@ -139,8 +140,8 @@ version-names s v e =
 
 pub record DeleteNames (s : List ℕ) (v : VersionDelete) : Type 0 where
   pub whole : fills s ≡ true
-  pub texts : textsUnder s ≡ some (v .identifier)
-  pub deleteText : textUnder deleteIdKey s ≡ some (v .deleteId)
+  pub texts : textsUnder byteView s ≡ some (v .identifier)
+  pub deleteText : textUnder byteView deleteIdKey s ≡ some (v .deleteId)
   pub rules : isValid (v .identifier) ≡ true
   pub deleteRules : isUlid (v .deleteId) ≡ true
 
@@ -152,8 +153,8 @@ pub delete-names : (s : List ℕ) (v : VersionDelete) → versionDelete s ≡ re
 unfolding versionDelete
 delete-names s v e =
     let a = filled s _ v (fills s) refl e in
-    let b = step 17 (textsUnder s) _ v (a .then-read) in
-    let c = step 17 (textUnder deleteIdKey s) _ v (b .then-read) in
+    let b = step 17 (textsUnder byteView s) _ v (a .then-read) in
+    let c = step 17 (textUnder byteView deleteIdKey s) _ v (b .then-read) in
     let d = step 18 (valid (b .given)) _ v (c .then-read) in
     let f = step 18 (ulidOf (c .given)) _ v (d .then-read) in
     let r = valid-some (b .given) (d .given) (d .is) in

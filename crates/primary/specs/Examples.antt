@@ -11,12 +11,13 @@ use Rattle.endian.specs.Places.{holds, numberAt}
 use Rattle.msgpack.specs.Formats.{formats, formatOf}
 use Rattle.msgpack.specs.Items.{headOf, passItems, passHead, passItem}
 use Rattle.msgpack.specs.Readers.{isWhole, contentAt, readBoolean}
-use Rattle.msgpack.specs.Lookup.{keyAt, lastWhere, lastValue, under}
+use Rattle.msgpack.specs.Lookup.{keyAt, lastWhere, lastValue}
+use Rattle.msgpack.specs.Views.{textAt}
 use Rattle.identifier.specs.Texts.{member, all, before}
 use Rattle.identifier.specs.Ulid.{alphabet, isCharacter, isUlid}
 use Rattle.identifier.specs.Identity.{sized, isBucket, isObject, Identity, identity, isValid, identityOf}
 use Rattle.identifier.specs.Composite.{compositeText, bucketIn, objectIn, isComposite, identityIn}
-use Rattle.primary.specs.Parts.{fills, textAt, textUnder, textsUnder, deletedUnder, ulidOf, shapeAt, shapeUnder, block, Version, version, VersionDelete, versionDelete}
+use Rattle.primary.specs.Parts.{fills, textUnder, textsUnder, deletedUnder, ulidOf, shapeAt, shapeUnder, block, Version, version, VersionDelete, versionDelete}
 
 -- ---- items in their shortest form
 
@@ -129,7 +130,7 @@ versions =
 
 pub versions-read : answers version versions ≡ told versions
 unfolding versions version fills textAt textUnder textsUnder deletedUnder passItem passHead passItems headOf isWhole
-    contentAt readBoolean keyAt sameBytes lastWhere lastValue under formatOf formats numberAt holds little big isUlid
+    contentAt readBoolean keyAt sameBytes lastWhere lastValue formatOf formats numberAt holds little big isUlid
     isCharacter alphabet isBucket isObject isValid identityOf sized member all
 versions-read = refl
 
@@ -143,7 +144,7 @@ deletes =
 
 pub deletes-read : answers versionDelete deletes ≡ told deletes
 unfolding deletes versionDelete fills textAt textUnder textsUnder ulidOf passItem passHead passItems headOf isWhole
-    contentAt keyAt sameBytes lastWhere lastValue under formatOf formats numberAt holds little big isUlid isCharacter
+    contentAt keyAt sameBytes lastWhere lastValue formatOf formats numberAt holds little big isUlid isCharacter
     alphabet isBucket isObject isValid identityOf sized member all
 deletes-read = refl
 
@@ -163,7 +164,7 @@ blocks =
 
 pub blocks-read : answers block blocks ≡ told blocks
 unfolding blocks block shapeAt shapeUnder compositeText isComposite identityIn bucketIn objectIn before fills textAt
-    textUnder textsUnder passItem passHead passItems headOf isWhole contentAt keyAt sameBytes lastWhere lastValue under
+    textUnder textsUnder passItem passHead passItems headOf isWhole contentAt keyAt sameBytes lastWhere lastValue
     formatOf formats numberAt holds little big isUlid isCharacter alphabet isBucket isObject isValid identityOf sized
     member all
 blocks-read = refl

@@ -4,11 +4,11 @@ use mathlib.Core.Bool.{Bool, false, cond}
 use mathlib.Core.List.{List, [], _∷_}
 use mathlib.Core.Option.{Option, none, some}
 use lib.Dec.{eqb}
-use lib.ListN.{length, drop}
+use lib.ListN.{length}
 use Rattle.refusals.specs.Answers.{Answer, refused, result, orRefused}
 use Rattle.msgpack.specs.Items.{Passage, whole, cut, tooDeep, passItem, depthAllowed}
-use Rattle.msgpack.specs.Readers.{contentOfPart, readText, readBoolean}
-use Rattle.msgpack.specs.Lookup.{under, ifThere}
+use Rattle.msgpack.specs.Lookup.{atPlace, ifThere}
+use Rattle.msgpack.specs.Views.{View, byteView}
 use Rattle.identifier.specs.Ulid.{isUlid}
 use Rattle.identifier.specs.Identity.{Identity, identity, identityOf}
 use Rattle.identifier.specs.Composite.{identityIn}
@@ -47,15 +47,20 @@ deletedKey = 100 ∷ []  -- d
 abbrev pub deleteIdKey : List ℕ
 deleteIdKey = 63 ∷ 63 ∷ 63 ∷ []  -- ???
 
+-- those that are read in each map
+abbrev pub identityKeys : List (List ℕ)
+identityKeys = ulidKey ∷ bucketKey ∷ objectKey ∷ []
+
+abbrev pub blockKeys : List (List ℕ)
+blockKeys = identifierKey ∷ []
+
+abbrev pub versionKeys : List (List ℕ)
+versionKeys = deletedKey ∷ identityKeys
+
+abbrev pub versionDeleteKeys : List (List ℕ)
+versionDeleteKeys = deleteIdKey ∷ identityKeys
+
 -- ---- 17: what stands under a key
-
--- the text at the front
-unfoldable pub textAt : List ℕ → Option (List ℕ)
-textAt s = contentOfPart s (readText s)
-
--- the text under a key of the map at the front
-unfoldable pub textUnder : List ℕ → List ℕ → Option (List ℕ)
-textUnder key s = under key s none (λ p. textAt (drop p s))
 
 abbrev pub textsBy : Option (List ℕ) → Option (List ℕ) → Option (List ℕ) → Option Identity
 textsBy ulid bucket object =
@@ -64,13 +69,17 @@ textsBy ulid bucket object =
     ifThere object λ o.
     some (identity u b o)
 
--- the texts `v`, `b`, `o` of the map at the front
-unfoldable pub textsUnder : List ℕ → Option Identity
-textsUnder s = textsBy (textUnder ulidKey s) (textUnder bucketKey s) (textUnder objectKey s)
+module _ {I : Type 0} (view : View I) where
+  unfoldable pub textUnder : List ℕ → I → Option (List ℕ)
+  textUnder key m = atPlace none (view .text) (view .under key m)
 
--- the delete flag of the map at the front; absent means false
-unfoldable pub deletedUnder : List ℕ → Option Bool
-deletedUnder s = under deletedKey s (some false) (λ p. readBoolean (drop p s))
+  -- the texts `v`, `b`, `o`
+  unfoldable pub textsUnder : I → Option Identity
+  textsUnder m = textsBy (textUnder ulidKey m) (textUnder bucketKey m) (textUnder objectKey m)
+
+  -- the delete flag; absent means false
+  unfoldable pub deletedUnder : I → Option Bool
+  deletedUnder m = atPlace (some false) (view .boolean) (view .under deletedKey m)
 
 -- ---- 18: the rules for texts
 
@@ -93,11 +102,12 @@ shapeOf (some t) three = some (composite t)
 shapeOf none (some i) = some (separate i)
 shapeOf none none = none
 
-unfoldable pub shapeAt : List ℕ → Option Shape
-shapeAt s = shapeOf (textAt s) (textsUnder s)
+module _ {I : Type 0} (view : View I) where
+  unfoldable pub shapeAt : I → Option Shape
+  shapeAt i = shapeOf (view .text i) (textsUnder view i)
 
-unfoldable pub shapeUnder : List ℕ → Option Shape
-shapeUnder s = under identifierKey s none (λ p. shapeAt (drop p s))
+  unfoldable pub shapeUnder : I → Option Shape
+  shapeUnder m = atPlace none shapeAt (view .under identifierKey m)
 
 abbrev pub identityBy : Shape → Option Identity
 identityBy (composite t) = identityIn t
@@ -110,9 +120,6 @@ blockBy shape =
     orRefused 17 shape λ i.
     orRefused 18 (identityBy i) result
 
-unfoldable pub block : List ℕ → Answer Identity
-block s = ifFills s (blockBy (shapeUnder s))
-
 pub record Version : Type 0 where
   pub identifier : Identity
   pub deleted : Bool
@@ -123,9 +130,6 @@ versionBy texts flag =
     orRefused 17 flag λ deleted.
     orRefused 18 (valid i) λ identifier.
     result (record { identifier = identifier; deleted = deleted })
-
-unfoldable pub version : List ℕ → Answer Version
-version s = ifFills s (versionBy (textsUnder s) (deletedUnder s))
 
 -- `identifier` is that of the version that is deleted
 pub record VersionDelete : Type 0 where
@@ -140,5 +144,22 @@ versionDeleteBy texts deleteText =
     orRefused 18 (ulidOf t) λ deleteId.
     result (record { identifier = identifier; deleteId = deleteId })
 
+-- what is seen of the part m
+module _ {I : Type 0} (view : View I) where
+  abbrev pub blockSeen : I → Answer Identity
+  blockSeen m = blockBy (shapeUnder view m)
+
+  abbrev pub versionSeen : I → Answer Version
+  versionSeen m = versionBy (textsUnder view m) (deletedUnder view m)
+
+  abbrev pub versionDeleteSeen : I → Answer VersionDelete
+  versionDeleteSeen m = versionDeleteBy (textsUnder view m) (textUnder view deleteIdKey m)
+
+unfoldable pub block : List ℕ → Answer Identity
+block s = ifFills s (blockSeen byteView s)
+
+unfoldable pub version : List ℕ → Answer Version
+version s = ifFills s (versionSeen byteView s)
+
 unfoldable pub versionDelete : List ℕ → Answer VersionDelete
-versionDelete s = ifFills s (versionDeleteBy (textsUnder s) (textUnder deleteIdKey s))
+versionDelete s = ifFills s (versionDeleteSeen byteView s)

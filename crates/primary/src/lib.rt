@@ -11,10 +11,11 @@ ghost use Rattle.msgpack.specs.Items.{passageOf, WholeItem};
 ghost use Rattle.msgpack.specs.Readers.{booleanOf, readBoolean};
 ghost use Rattle.msgpack.specs.Lookup.{atPlace};
 ghost use Rattle.msgpack.specs.Pairs.{placeTold};
+ghost use Rattle.msgpack.specs.Views.{textAt, byteView};
 ghost use Rattle.identifier.specs.Identity.{isValid};
 ghost use Rattle.identifier.specs.Ulid.{isUlid};
 ghost use Rattle.identifier.specs.Composite.{identityIn};
-ghost use Rattle.primary.specs.Parts.{isOfLength, textAt, textsUnder, shapeAt, valid, blockBy, block, version, versionDelete};
+ghost use Rattle.primary.specs.Parts.{isOfLength, textsUnder, shapeAt, valid, blockBy, block, version, versionDelete};
 ghost use Rattle.primary.specs.Answers.{numberOf, IdentifierAt, textsIn, textOf, textsOf, blockOf, versionOf, versionDeleteOf, AllInside, TextInside, TextsInside, BlockInside, VersionInside, DeleteInside};
 use identifier::Split;
 use msgpack::Boolean;
@@ -137,7 +138,7 @@ fn text_under(part: &[u8], at: usize, place: usize) -> TextRead
 // The three texts of the identifier map at a place, by the places told of its keys.
 fn texts_under(part: &[u8], at: usize, places: [usize; 8]) -> TextsRead
     requires { ⌜ (at ≤ length (now part)) × IdentifierAt (drop at (now part)) places ⌝ }
-    ensures { λ r. ⌜ textsOf (now (part .entry)) r ≡ textsUnder (drop at (now (part .entry))) ⌝ }
+    ensures { λ r. ⌜ textsOf (now (part .entry)) r ≡ textsUnder byteView (drop at (now (part .entry))) ⌝ }
     ensures inside { λ r. ⌜ TextsInside (now (part .entry)) r ⌝ }
 {
     let TextRead::At(ulid) = text_under(part, at, places[0]) else {
@@ -159,7 +160,7 @@ fn texts_under(part: &[u8], at: usize, places: [usize; 8]) -> TextsRead
 // The three texts of the identifier map at a place.
 fn texts_at(part: &[u8], at: usize) -> TextsRead
     requires { ⌜ (at ≤ length (now part)) × WholeItem (drop at (now part)) ⌝ }
-    ensures { λ r. ⌜ textsOf (now (part .entry)) r ≡ textsUnder (drop at (now (part .entry))) ⌝ }
+    ensures { λ r. ⌜ textsOf (now (part .entry)) r ≡ textsUnder byteView (drop at (now (part .entry))) ⌝ }
     ensures inside { λ r. ⌜ TextsInside (now (part .entry)) r ⌝ }
 {
     let pairs = msgpack::read_pairs(&part[at..], IDENTIFIER_KEYS);
@@ -230,7 +231,7 @@ fn from_texts(part: &[u8], t: Texts) -> BlockRead
 // The identifier at a place, in either shape.
 fn identifier_at(part: &[u8], at: usize) -> BlockRead
     requires { ⌜ (at ≤ length (now part)) × WholeItem (drop at (now part)) ⌝ }
-    ensures { λ r. ⌜ blockOf (now (part .entry)) r ≡ blockBy (shapeAt (drop at (now (part .entry)))) ⌝ }
+    ensures { λ r. ⌜ blockOf (now (part .entry)) r ≡ blockBy (shapeAt byteView (drop at (now (part .entry)))) ⌝ }
     ensures inside { λ r. ⌜ BlockInside (now (part .entry)) r ⌝ }
 {
     match text_at(part, at) {

@@ -28,7 +28,7 @@ pub(crate) fn composite(text: &[u8]) {
 
 pub(crate) fn header(s: &[u8]) {
     match value::read(s) {
-        value::Reading::Told(t) => show::say_told(t),
+        value::Reading::Told(t) => show::say_told(0, t),
         value::Reading::Refused(f) => say_refusal(value::number(f)),
     }
 }
@@ -64,24 +64,29 @@ pub(crate) fn version_delete(s: &[u8]) {
     }
 }
 
-fn say_record(value: &[u8], r: Record) {
+// Of a record whose value starts at a place.
+fn say_record(s: &[u8], start: usize, r: Record) {
     let kind = r.kind;
-    say_part(value::primary(value), r.identifier, kind);
-    show::say_told(r.told);
+    say_part(s, r.identifier, kind);
+    show::say_told(start, r.told);
 }
 
 pub(crate) fn record(value: &[u8], tag: usize) {
-    match records::read((tag % 65536) as u16, value) {
-        records::Reading::Record(r) => say_record(value, r),
+    let whole = Place {
+        start: 0,
+        len: value.len(),
+    };
+    match records::read((tag % 65536) as u16, value, whole) {
+        records::Reading::Record(r) => say_record(value, 0, r),
         records::Reading::Refused(f) => say_refusal(records::number(f)),
     }
 }
 
 // Where the value lies, and the record.
-fn say_placed(pack: &[u8], r: Record, start: usize, len: usize) {
-    say_number(b'@', start);
-    say_number(b'l', len);
-    say_record(slices::part(pack, Place { start, len }), r);
+fn say_placed(pack: &[u8], r: Record, value: Place) {
+    say_number(b'@', value.start);
+    say_number(b'l', value.len);
+    say_record(pack, value.start, r);
 }
 
 fn say_refusal_at(number: u8, place: usize) {
@@ -91,7 +96,7 @@ fn say_refusal_at(number: u8, place: usize) {
 
 pub(crate) fn at_place(pack: &[u8], place: usize) {
     match records::read_at(pack, place) {
-        AtPlace::Record { record, start, len } => say_placed(pack, record, start, len),
+        AtPlace::Record { record, value } => say_placed(pack, record, value),
         AtPlace::Outside => say_refusal(20),
         AtPlace::TooLong => say_refusal_at(1, 0),
         AtPlace::Fault(f, at) => say_refusal_at(tlv::number(f), at),

@@ -51,17 +51,18 @@ pub(crate) fn say_identifier(id: Identifier) {
     say_text(b'o', slices::front(&object, id.objectlen));
 }
 
-fn say_part(letter: u8, p: Part) {
-    say_number(letter, p.start);
+fn say_part(letter: u8, start: usize, p: Part) {
+    say_number(letter, std::num::wrapping_sub_usize(p.start, start));
     say_number(b'l', p.len);
     say_number(b'c', p.compression as usize);
     say_number(b'z', p.encrypted as usize);
 }
 
-// What a value tells: `v`, the primary part, how many maps stand in `s`, and the secondary part.
-pub(crate) fn say_told(t: Told) {
+// What a value that starts at a place tells, as places of the value: `v`, the primary part, how many
+// maps stand in `s`, and the secondary part.
+pub(crate) fn say_told(start: usize, t: Told) {
     say_number(b'v', t.version as usize);
-    say_part(b'e', t.primary);
+    say_part(b'e', start, t.primary);
     say_number(b's', t.present as usize);
-    say_part(b'@', t.secondary);
+    say_part(b'@', start, t.secondary);
 }

@@ -1,18 +1,16 @@
--- The places that are told lie inside: from the answers about a part to those about a record.
-use Prim.Native.Nat.{ℕ, _+_, _≤_}
+-- The places that are told lie inside, and what stands there: of a part, of the pack, and from the one to the other.
+use Prim.Native.Nat.{ℕ}
 use mathlib.Core.Bool.{Bool}
 use mathlib.Core.List.{List}
-use mathlib.Core.Path.{_≡_, subst}
-use lib.ListN.{length, take, drop}
+use mathlib.Core.Path.{_≡_, refl, subst}
 use Rattle.slices.specs.Logic.{absurd-numbers}
-use Rattle.slices.specs.Places.{Inside}
+use Rattle.slices.specs.Places.{partAt, Inside, Within, shifted-within, shifted-part}
 use Rattle.slices.specs.declared.Place.{Place}
 use Rattle.tlv.specs.declared.Fault as tlv
-use Rattle.primary.specs.Answers.{AllInside}
+use Rattle.primary.specs.Answers.{textsIn, AllInside}
 use Rattle.primary.specs.declared.Texts.{Texts}
 use Rattle.primary.specs.declared.Fault as primary
-use Rattle.records.specs.Record.{primaryIn}
-use Rattle.records.specs.Answers.{KindInside, ContentsInside, PartInside, RecordInside, PlaceInside}
+use Rattle.records.specs.Answers.{kindIn, contentsIn, shiftTexts, shiftKind, KindInside, ContentsInside, PartInside, ContentsWithin, PlacesInside, RecordInside, IsValue, PlaceInside}
 use Rattle.records.specs.declared.Kind.{Kind}
 use Rattle.records.specs.declared.Kind.the-variants.{Block, Version, VersionDelete}
 use Rattle.records.specs.declared.Record.{Record}
@@ -50,32 +48,61 @@ module _ (part : List ℕ) where
   pub none-inside : (f : primary.Fault) → PartInside part (part-answer.Refused f)
   none-inside f = record { contents = λ t k e. absurd-numbers (cc) }
 
+-- ---- from the part of s at a place to s
+
+module _ (s : List ℕ) (p : Place) where
+  texts-shifted : (t : Texts) → AllInside (partAt s p) t → textsIn s (shiftTexts (p .start) t) ≡ textsIn (partAt s p) t
+  texts-shifted t h = rw (shifted-part s p (t .ulid) (h .ulid), shifted-part s p (t .bucket) (h .bucket), shifted-part s p (t .object) (h .object))
+
+  kind-shifted : (k : Kind) → KindInside (partAt s p) k → kindIn s (shiftKind (p .start) k) ≡ kindIn (partAt s p) k
+  kind-shifted Block h = refl
+  kind-shifted (Version deleted) h = refl
+  kind-shifted (VersionDelete id) h = rw (shifted-part s p id (h .delete-id id refl))
+
+  delete-within : (k : Kind) → KindInside (partAt s p) k → (id : Place) → shiftKind (p .start) k ≡ VersionDelete id → Within p id
+  delete-within Block h id e = absurd-numbers (cc)
+  delete-within (Version deleted) h id e = absurd-numbers (cc)
+  delete-within (VersionDelete t) h id e =
+      subst (λ u. Within p u) (cc) (shifted-within s p t (h .delete-id t refl))
+
+  module _ (t : Texts) (k : Kind) (h : ContentsInside (partAt s p) t k) where
+    pub contents-shifted : contentsIn s (shiftTexts (p .start) t) (shiftKind (p .start) k) ≡ contentsIn (partAt s p) t k
+    contents-shifted = rw (texts-shifted t (h .identifier), kind-shifted k (h .kind))
+
+    pub contents-within : ContentsWithin p (shiftTexts (p .start) t) (shiftKind (p .start) k)
+    contents-within = record {
+      ulid = shifted-within s p (t .ulid) (h .identifier .ulid);
+      bucket = shifted-within s p (t .bucket) (h .identifier .bucket);
+      object = shifted-within s p (t .object) (h .identifier .object);
+      delete-id = delete-within k (h .kind);
+    }
+
 -- ---- a record
 
 module _ (s : List ℕ) where
-  pub record-inside : (d : Record) → ContentsInside (primaryIn s (d .told)) (d .identifier) (d .kind) → RecordInside s (reading-answer.Record d)
-  record-inside d h = record { contents = λ other e. let same : d ≡ other = cc in rw (← same) h }
+  pub record-inside : (d : Record) → PlacesInside s d → RecordInside s (reading-answer.Record d)
+  record-inside d h = record { places = λ other e. let same : d ≡ other = cc in rw (← same) h }
 
   pub refused-inside : (f : Fault) → RecordInside s (reading-answer.Refused f)
-  refused-inside f = record { contents = λ d e. absurd-numbers (cc) }
+  refused-inside f = record { places = λ d e. absurd-numbers (cc) }
 
 -- ---- a place of a pack
 
-module _ (s : List ℕ) where
-  pub place-inside : (d : Record) (start len : ℕ) → start + len ≤ length s → ContentsInside (primaryIn (take len (drop start s)) (d .told)) (d .identifier) (d .kind) → PlaceInside s (place-answer.Record d start len)
-  place-inside d start len l h = record {
-    value = λ e a n q. let starts : start ≡ a = cc in let lengths : len ≡ n = cc in rw (← starts, ← lengths) l;
-    contents = λ e a n q. let same : d ≡ e = cc in let starts : start ≡ a = cc in let lengths : len ≡ n = cc in rw (← same, ← starts, ← lengths) h;
+module _ (s : List ℕ) (at : ℕ) where
+  pub place-inside : (d : Record) (v : Place) → IsValue s at v → PlacesInside s d → PlaceInside s at (place-answer.Record d v)
+  place-inside d v i h = record {
+    value = λ e w q. let same : v ≡ w = cc in rw (← same) i;
+    places = λ e w q. let same : d ≡ e = cc in rw (← same) h;
   }
 
-  pub no-outside : PlaceInside s place-answer.Outside
-  no-outside = record { value = λ d start len e. absurd-numbers (cc); contents = λ d start len e. absurd-numbers (cc) }
+  pub no-outside : PlaceInside s at place-answer.Outside
+  no-outside = record { value = λ d v e. absurd-numbers (cc); places = λ d v e. absurd-numbers (cc) }
 
-  pub no-too-long : PlaceInside s place-answer.TooLong
-  no-too-long = record { value = λ d start len e. absurd-numbers (cc); contents = λ d start len e. absurd-numbers (cc) }
+  pub no-too-long : PlaceInside s at place-answer.TooLong
+  no-too-long = record { value = λ d v e. absurd-numbers (cc); places = λ d v e. absurd-numbers (cc) }
 
-  pub no-fault : (f : tlv.Fault) (at : ℕ) → PlaceInside s (place-answer.Fault f at)
-  no-fault f at = record { value = λ d start len e. absurd-numbers (cc); contents = λ d start len e. absurd-numbers (cc) }
+  pub no-fault : (f : tlv.Fault) (place : ℕ) → PlaceInside s at (place-answer.Fault f place)
+  no-fault f place = record { value = λ d v e. absurd-numbers (cc); places = λ d v e. absurd-numbers (cc) }
 
-  pub no-refused : (f : Fault) → PlaceInside s (place-answer.Refused f)
-  no-refused f = record { value = λ d start len e. absurd-numbers (cc); contents = λ d start len e. absurd-numbers (cc) }
+  pub no-refused : (f : Fault) → PlaceInside s at (place-answer.Refused f)
+  no-refused f = record { value = λ d v e. absurd-numbers (cc); places = λ d v e. absurd-numbers (cc) }

@@ -1,17 +1,19 @@
 -- What the answers of the code say: document 01's numbers, and the contents at the places told.
-use Prim.Native.Nat.{ℕ, _+_, _≤_}
+use Prim.Native.Nat.{ℕ, _+_, _^_, _<_}
 use mathlib.Core.List.{List}
 use mathlib.Core.Path.{_≡_}
-use lib.ListN.{length, take, drop}
-use Rattle.slices.specs.Places.{partAt, Inside}
+use lib.ListN.{drop}
+use Rattle.slices.specs.Places.{partAt, Inside, Within, shiftPlace}
 use Rattle.slices.specs.declared.Place.{Place}
 use Rattle.refusals.specs.Answers.{Answer, refused, result}
 use Rattle.tlv.specs.Found as tlv
 use Rattle.value.specs.Reading as value
+use Rattle.value.specs.declared.Part.{Part}
+use Rattle.value.specs.declared.Told.{Told}
 use Rattle.primary.specs.Answers as primary
 use Rattle.primary.specs.Answers.{textsIn, AllInside}
 use Rattle.primary.specs.declared.Texts.{Texts}
-use Rattle.records.specs.Record.{Kind, block, version, versionDelete, Contents, Record, primaryIn, AtPlace, there, refusedAt, alone}
+use Rattle.records.specs.Record.{Kind, block, version, versionDelete, Contents, Record, AtPlace, there, refusedAt, alone}
 use Rattle.records.specs.declared.Kind as declared-kind
 use Rattle.records.specs.declared.Kind.the-variants as kind-answer
 use Rattle.records.specs.declared.Record as declared-record
@@ -33,37 +35,51 @@ numberOf (Primary f) = primary.numberOf f
 
 -- ---- contents at places
 
--- in the primary part
 abbrev pub kindIn : List ℕ → declared-kind.Kind → Kind
-kindIn part kind-answer.Block = block
-kindIn part (kind-answer.Version deleted) = version deleted
-kindIn part (kind-answer.VersionDelete id) = versionDelete (partAt part id)
+kindIn s kind-answer.Block = block
+kindIn s (kind-answer.Version deleted) = version deleted
+kindIn s (kind-answer.VersionDelete id) = versionDelete (partAt s id)
 
 abbrev pub contentsIn : List ℕ → Texts → declared-kind.Kind → Contents
-contentsIn part t k = record { identifier = textsIn part t; kind = kindIn part k }
+contentsIn s t k = record { identifier = textsIn s t; kind = kindIn s k }
 
+-- of the primary part
 abbrev pub partOf : List ℕ → PartRead → Answer Contents
 partOf part (part-answer.Read t k) = result (contentsIn part t k)
 partOf part (part-answer.Refused f) = refused (primary.numberOf f)
 
--- in the value
+-- of the pack
 abbrev pub recordIn : List ℕ → declared-record.Record → Record
-recordIn s r = record { told = r .told; contents = contentsIn (primaryIn s (r .told)) (r .identifier) (r .kind) }
+recordIn s r = record { told = r .told; contents = contentsIn s (r .identifier) (r .kind) }
 
 abbrev pub answerOf : List ℕ → Reading → Answer Record
 answerOf s (reading-answer.Record r) = result (recordIn s r)
 answerOf s (reading-answer.Refused f) = refused (numberOf f)
 
--- in the pack
 abbrev pub placeOf : List ℕ → declared-place.AtPlace → AtPlace
-placeOf s (place-answer.Record r start len) = there (take len (drop start s)) (recordIn (take len (drop start s)) r)
+placeOf s (place-answer.Record r value) = there (partAt s value) (recordIn s r)
 placeOf s place-answer.Outside = alone 20
 placeOf s place-answer.TooLong = refusedAt 1 0
 placeOf s (place-answer.Fault f at) = refusedAt (tlv.numberOf f) at
 placeOf s (place-answer.Refused f) = alone (numberOf f)
 
+-- ---- from places of the primary part, which begins at `by`, to places of the pack
+
+abbrev pub shiftTexts : ℕ → Texts → Texts
+shiftTexts by t = record { ulid = shiftPlace by (t .ulid); bucket = shiftPlace by (t .bucket); object = shiftPlace by (t .object) }
+
+abbrev pub shiftKind : ℕ → declared-kind.Kind → declared-kind.Kind
+shiftKind by kind-answer.Block = kind-answer.Block
+shiftKind by (kind-answer.Version deleted) = kind-answer.Version deleted
+shiftKind by (kind-answer.VersionDelete id) = kind-answer.VersionDelete (shiftPlace by id)
+
+-- the sum is a number of 64 bits
+pub record KindFits (by : ℕ) (k : declared-kind.Kind) : Type 0 where
+  pub delete-id : (id : Place) → k ≡ kind-answer.VersionDelete id → by + id .start < 2 ^ 64
+
 -- ---- the places told lie inside
 
+-- the primary part
 pub record KindInside (part : List ℕ) (k : declared-kind.Kind) : Type 0 where
   pub delete-id : (id : Place) → k ≡ kind-answer.VersionDelete id → Inside part id
 
@@ -74,11 +90,32 @@ pub record ContentsInside (part : List ℕ) (t : Texts) (k : declared-kind.Kind)
 pub record PartInside (part : List ℕ) (r : PartRead) : Type 0 where
   pub contents : (t : Texts) (k : declared-kind.Kind) → r ≡ part-answer.Read t k → ContentsInside part t k
 
-pub record RecordInside (s : List ℕ) (r : Reading) : Type 0 where
-  pub contents : (d : declared-record.Record) → r ≡ reading-answer.Record d → ContentsInside (primaryIn s (d .told)) (d .identifier) (d .kind)
+-- the pack: the parts in it, and the contents in the primary part
+abbrev pub placeOfPart : Part → Place
+placeOfPart p = record { start = p .start; len = p .len }
 
--- the value in the pack, and in it the contents
-pub record PlaceInside (s : List ℕ) (r : declared-place.AtPlace) : Type 0 where
-  pub value : (d : declared-record.Record) (start len : ℕ) → r ≡ place-answer.Record d start len → start + len ≤ length s
-  pub contents : (d : declared-record.Record) (start len : ℕ) → r ≡ place-answer.Record d start len
-      → ContentsInside (primaryIn (take len (drop start s)) (d .told)) (d .identifier) (d .kind)
+pub record ToldInside (s : List ℕ) (t : Told) : Type 0 where
+  pub primary : Inside s (placeOfPart (t .primary))
+  pub secondary : Inside s (placeOfPart (t .secondary))
+
+pub record ContentsWithin (p : Place) (t : Texts) (k : declared-kind.Kind) : Type 0 where
+  pub ulid : Within p (t .ulid)
+  pub bucket : Within p (t .bucket)
+  pub object : Within p (t .object)
+  pub delete-id : (id : Place) → k ≡ kind-answer.VersionDelete id → Within p id
+
+pub record PlacesInside (s : List ℕ) (d : declared-record.Record) : Type 0 where
+  pub told : ToldInside s (d .told)
+  pub contents : ContentsWithin (placeOfPart (d .told .primary)) (d .identifier) (d .kind)
+
+pub record RecordInside (s : List ℕ) (r : Reading) : Type 0 where
+  pub places : (d : declared-record.Record) → r ≡ reading-answer.Record d → PlacesInside s d
+
+-- the value of a record at a place: it follows the header, is as long as that says, and lies inside
+pub record IsValue (s : List ℕ) (at : ℕ) (v : Place) : Type 0 where
+  pub is : v ≡ record { start = at + 32; len = tlv.headerOf (drop at s) .length }
+  pub inside : Inside s v
+
+pub record PlaceInside (s : List ℕ) (at : ℕ) (r : declared-place.AtPlace) : Type 0 where
+  pub value : (d : declared-record.Record) (v : Place) → r ≡ place-answer.Record d v → IsValue s at v
+  pub places : (d : declared-record.Record) (v : Place) → r ≡ place-answer.Record d v → PlacesInside s d

@@ -18,6 +18,7 @@ use Rattle.tlv.specs.Layout.{Fits, layout, length-head, length-layout}
 use Rattle.tlv.specs.Found.{found, step, made}
 use Rattle.tlv.specs.Stands.{layout-step}
 use Rattle.value.specs.Reading as value
+use Rattle.value.specs.Header.{tellingOf}
 use Rattle.value.specs.declared.Told.{Told}
 use Rattle.records.specs.Record.{isKnown, Contents, contents, Record, toldRows, primaryIn, withTold, byValue, readRecord, canBeRead, atPlace, recordAt}
 
@@ -43,7 +44,7 @@ record NoRow (tag : ℕ) (t : Told) : Type 0 where
   not-encrypted : t .primary .encrypted ≡ false
   not-compressed : t .primary .compression ≡ 0
 
-no-row : {A : Type 0} (tag : ℕ) (t : Told) (next : Answer A) (a : A) → unless (lowest (toldRows tag t)) next ≡ result a → NoRow tag t × (next ≡ result a)
+no-row : {A : Type 0} (tag : ℕ) (t : Told) (next : Answer A) (a : A) → unless (lowest (toldRows tag (tellingOf t))) next ≡ result a → NoRow tag t × (next ≡ result a)
 unfolding toldRows lowest
 no-row tag t next a e = tag-test (isKnown tag) refl e
   where

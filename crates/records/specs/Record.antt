@@ -1,5 +1,5 @@
 -- One record: what its tag and value tell, and what stands at a place of a pack; refusals 1 to 18, and 20, of document 01.
-use Prim.Native.Nat.{ℕ}
+use Prim.Native.Nat.{ℕ, _+_}
 use mathlib.Core.Bool.{Bool, cond, not, _||_}
 use mathlib.Core.List.{List, [], _∷_}
 use lib.Dec.{ltb, leb, eqb}
@@ -9,7 +9,9 @@ use Rattle.refusals.specs.Answers.{Answer, refused, result, isResult, unless}
 use Rattle.tlv.specs.Found.{Found, end, found, fault, step}
 use Rattle.tlv.specs.declared.RecordHeader.{RecordHeader}
 use Rattle.identifier.specs.Identity.{Identity}
+use Rattle.value.specs.Header.{Telling, tellingOf}
 use Rattle.value.specs.Reading as value
+use Rattle.value.specs.declared.Part.{Part}
 use Rattle.value.specs.declared.Told.{Told}
 use Rattle.primary.specs.Parts as primary
 
@@ -64,8 +66,8 @@ pub record Record : Type 0 where
   pub told : Told  -- the parts, as places of the value
   pub contents : Contents
 
--- 13 to 15: a number, and whether it applies to a value of which t is told
-unfoldable pub toldRows : ℕ → Told → List Row
+-- 13 to 15: a number, and whether it applies to a value whose header tells t
+unfoldable pub toldRows : ℕ → Telling → List Row
 toldRows tag t =
     record { number = 13; applies = not (isKnown tag) }
     ∷ record { number = 14; applies = not (eqb (t .version) 0) }
@@ -80,7 +82,7 @@ withTold t (result c) = result (record { told = t; contents = c })
 withTold t (refused n) = refused n
 
 abbrev pub byValue : ℕ → List ℕ → Answer Told → Answer Record
-byValue tag s (result t) = unless (lowest (toldRows tag t)) (withTold t (contents tag (primaryIn s t)))
+byValue tag s (result t) = unless (lowest (toldRows tag (tellingOf t))) (withTold t (contents tag (primaryIn s t)))
 byValue tag s (refused n) = refused n
 
 -- the record with this tag and the value s, in which a secondary part has at most `limit` bytes
@@ -120,3 +122,23 @@ recordAt limit s at =
     cond (leb (length s) at) (alone 20)
     (cond (ltb limit (length s)) (refusedAt 1 0)
     (byStep limit s at (step (drop at s))))
+
+-- ---- as code tells a record: its value starts at a place of a pack, and the parts are places of the pack too
+
+abbrev pub partFrom : ℕ → Part → Part
+partFrom by p = record { start = by + p .start; len = p .len; compression = p .compression; encrypted = p .encrypted }
+
+abbrev pub toldFrom : ℕ → Told → Told
+toldFrom by t = record { version = t .version; primary = partFrom by (t .primary); present = t .present; secondary = partFrom by (t .secondary) }
+
+abbrev pub recordFrom : ℕ → Record → Record
+recordFrom by r = record { told = toldFrom by (r .told); contents = r .contents }
+
+abbrev pub answerFrom : ℕ → Answer Record → Answer Record
+answerFrom by (result r) = result (recordFrom by r)
+answerFrom by (refused n) = refused n
+
+abbrev pub thereFrom : ℕ → AtPlace → AtPlace
+thereFrom by (there value r) = there value (recordFrom by r)
+thereFrom by (refusedAt number place) = refusedAt number place
+thereFrom by (alone number) = alone number

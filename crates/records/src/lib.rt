@@ -1,14 +1,15 @@
-// One record: what its tag and value tell, and the record at a place of a pack. Answers tell places;
-// nothing is copied.
+// One record of a pack: what its tag and value tell, and the record at a place. Answers tell places of
+// the pack; nothing is copied.
 ghost use mathlib.Core.Path.{_≡_};
-ghost use Prim.Native.Nat.{_+_, _-_, _≤_};
-ghost use lib.ListN.{length, take, drop};
+ghost use Prim.Native.Nat.{_+_, _^_, _<_};
+ghost use Rattle.slices.specs.Places.{partAt, shiftPlace};
 ghost use Rattle.refusals.specs.Sheet.{lowest};
 ghost use Rattle.refusals.specs.Limit.{packLimit};
 ghost use Rattle.refusals.specs.Answers.{unless};
+ghost use Rattle.value.specs.Header.{tellingOf};
 ghost use Rattle.primary.specs.Parts.{block, version, versionDelete};
-ghost use Rattle.records.specs.Record.{isKnown, ofBlock, ofVersion, ofVersionDelete, contents, toldRows, primaryIn, withTold, readRecord, atPlace, recordAt};
-ghost use Rattle.records.specs.Answers.{numberOf, partOf, answerOf, placeOf, PartInside, RecordInside, PlaceInside};
+ghost use Rattle.records.specs.Record.{isKnown, ofBlock, ofVersion, ofVersionDelete, contents, toldRows, primaryIn, withTold, readRecord, recordAt, partFrom, toldFrom, answerFrom, thereFrom};
+ghost use Rattle.records.specs.Answers.{numberOf, partOf, answerOf, placeOf, shiftTexts, shiftKind, KindFits, PartInside, ToldInside, RecordInside, PlaceInside};
 use primary::BlockRead;
 use primary::DeleteRead;
 use primary::Texts;
@@ -16,6 +17,7 @@ use primary::VersionRead;
 use slices::Place;
 use tlv::RecordHeader;
 use tlv::Step;
+use value::Part;
 use value::Told;
 
 pub const BLOCK: u16 = 0x626b;
@@ -59,8 +61,8 @@ pub enum Kind {
     VersionDelete(Place),
 }
 
-// What a record tells: its value's parts, as places of the value; and, as places of the primary part,
-// its identifier and what belongs to its kind.
+// What a record tells, as places of the pack: its value's parts; and, in the primary part, its
+// identifier and what belongs to its kind.
 pub struct Record {
     pub told: Told,
     pub identifier: Texts,
@@ -123,6 +125,69 @@ fn contents(tag: u16, part: &[u8]) -> PartRead
     version_delete(part)
 }
 
+// ---- from places of a part, or of a value, to places of the pack, in which it begins at `by`
+
+fn place_from(by: usize, p: Place) -> Place
+    requires { ⌜ by + p .start < 2 ^ 64 ⌝ }
+    ensures { λ r. ⌜ r ≡ shiftPlace by p ⌝ }
+{
+    Place {
+        start: by + p.start,
+        len: p.len,
+    }
+}
+
+fn texts_from(by: usize, t: Texts) -> Texts
+    requires { ⌜ (by + t .ulid .start < 2 ^ 64) × (by + t .bucket .start < 2 ^ 64) × (by + t .object .start < 2 ^ 64) ⌝ }
+    ensures { λ r. ⌜ r ≡ shiftTexts by t ⌝ }
+{
+    let ulid = place_from(by, t.ulid);
+    let bucket = place_from(by, t.bucket);
+    let object = place_from(by, t.object);
+    Texts {
+        ulid,
+        bucket,
+        object,
+    }
+}
+
+fn kind_from(by: usize, kind: Kind) -> Kind
+    requires { ⌜ KindFits by kind ⌝ }
+    ensures { λ r. ⌜ r ≡ shiftKind by kind ⌝ }
+{
+    match kind {
+        Kind::Block => Kind::Block,
+        Kind::Version(deleted) => Kind::Version(deleted),
+        Kind::VersionDelete(id) => Kind::VersionDelete(place_from(by, id)),
+    }
+}
+
+fn part_from(by: usize, p: Part) -> Part
+    requires { ⌜ by + p .start < 2 ^ 64 ⌝ }
+    ensures { λ r. ⌜ r ≡ partFrom by p ⌝ }
+{
+    Part {
+        start: by + p.start,
+        len: p.len,
+        compression: p.compression,
+        encrypted: p.encrypted,
+    }
+}
+
+fn told_from(by: usize, t: Told) -> Told
+    requires { ⌜ (by + t .primary .start < 2 ^ 64) × (by + t .secondary .start < 2 ^ 64) ⌝ }
+    ensures { λ r. ⌜ r ≡ toldFrom by t ⌝ }
+{
+    let primary = part_from(by, t.primary);
+    let secondary = part_from(by, t.secondary);
+    Told {
+        version: t.version,
+        primary,
+        present: t.present,
+        secondary,
+    }
+}
+
 // ---- the value
 
 fn is_known(tag: u16) -> bool
@@ -131,29 +196,33 @@ fn is_known(tag: u16) -> bool
     (tag == BLOCK) | (tag == VERSION) | (tag == VERSION_DELETE)
 }
 
-fn with_part(tag: u16, value: &[u8], told: Told) -> Reading
-    requires { ⌜ told .primary .start + told .primary .len ≤ length (now value) ⌝ }
-    ensures { λ r. ⌜ answerOf (now (value .entry)) r ≡ withTold told (contents tag (primaryIn (now (value .entry)) told)) ⌝ }
-    ensures inside { λ r. ⌜ RecordInside (now (value .entry)) r ⌝ }
+fn with_part(tag: u16, pack: &[u8], told: Told) -> Reading
+    requires { ⌜ ToldInside (now pack) told ⌝ }
+    ensures { λ r. ⌜ answerOf (now (pack .entry)) r ≡ withTold told (contents tag (primaryIn (now (pack .entry)) told)) ⌝ }
+    ensures inside { λ r. ⌜ RecordInside (now (pack .entry)) r ⌝ }
 {
     let start = told.primary.start;
     let end = start + told.primary.len;
-    match contents(tag, &value[start..end]) {
-        PartRead::Read(identifier, kind) => Reading::Record(Record {
-            told,
-            identifier,
-            kind,
-        }),
+    match contents(tag, &pack[start..end]) {
+        PartRead::Read(t, k) => {
+            let identifier = texts_from(start, t);
+            let kind = kind_from(start, k);
+            Reading::Record(Record {
+                told,
+                identifier,
+                kind,
+            })
+        }
         PartRead::Refused(f) => Reading::Refused(Fault::Primary(f)),
     }
 }
 
 // The tests come in the order of their numbers.
-fn by_told(tag: u16, value: &[u8], told: Told) -> Reading
-    requires { ⌜ told .primary .start + told .primary .len ≤ length (now value) ⌝ }
-    ensures { λ r. ⌜ answerOf (now (value .entry)) r ≡ unless (lowest (toldRows tag told))
-        (withTold told (contents tag (primaryIn (now (value .entry)) told))) ⌝ }
-    ensures inside { λ r. ⌜ RecordInside (now (value .entry)) r ⌝ }
+fn by_told(tag: u16, pack: &[u8], told: Told) -> Reading
+    requires { ⌜ ToldInside (now pack) told ⌝ }
+    ensures { λ r. ⌜ answerOf (now (pack .entry)) r ≡ unless (lowest (toldRows tag (tellingOf told)))
+        (withTold told (contents tag (primaryIn (now (pack .entry)) told))) ⌝ }
+    ensures inside { λ r. ⌜ RecordInside (now (pack .entry)) r ⌝ }
 {
     let primary = told.primary;
     if !is_known(tag) {
@@ -165,16 +234,17 @@ fn by_told(tag: u16, value: &[u8], told: Told) -> Reading
     if primary.encrypted | (primary.compression != 0) {
         return Reading::Refused(Fault::Encoded);
     }
-    with_part(tag, value, told)
+    with_part(tag, pack, told)
 }
 
-// The record with this tag and value.
-pub fn read(tag: u16, value: &[u8]) -> Reading
-    ensures { λ r. ⌜ answerOf (now (value .entry)) r ≡ readRecord packLimit tag (now (value .entry)) ⌝ }
-    ensures inside { λ r. ⌜ RecordInside (now (value .entry)) r ⌝ }
+// The record with this tag whose value stands at a place of the pack; of a place that is not inside,
+// the value is what is there.
+pub fn read(tag: u16, pack: &[u8], value: Place) -> Reading
+    ensures { λ r. ⌜ answerOf (now (pack .entry)) r ≡ answerFrom (value .start) (readRecord packLimit tag (partAt (now (pack .entry)) value)) ⌝ }
+    ensures inside { λ r. ⌜ RecordInside (now (pack .entry)) r ⌝ }
 {
-    match value::read(value) {
-        value::Reading::Told(t) => by_told(tag, value, t),
+    match value::read(slices::part(pack, value)) {
+        value::Reading::Told(t) => by_told(tag, pack, told_from(value.start, t)),
         value::Reading::Refused(f) => Reading::Refused(Fault::Value(f)),
     }
 }
@@ -183,11 +253,7 @@ pub fn read(tag: u16, value: &[u8]) -> Reading
 
 pub enum AtPlace {
     // The record, and where its value stands in the pack.
-    Record {
-        record: Record,
-        start: usize,
-        len: usize,
-    },
+    Record { record: Record, value: Place },
     // The place is not inside the pack: refusal 20.
     Outside,
     // The pack is longer than the limit: refusal 1, at 0.
@@ -198,27 +264,10 @@ pub enum AtPlace {
     Refused(Fault),
 }
 
-// The record with this tag whose value stands at these places.
-fn read_between(tag: u16, pack: &[u8], start: usize, end: usize) -> AtPlace
-    requires { ⌜ (start ≤ end) × (end ≤ length (now pack)) ⌝ }
-    ensures { λ r. ⌜ placeOf (now (pack .entry)) r ≡ atPlace (take (end - start) (drop start (now (pack .entry))))
-        (readRecord packLimit tag (take (end - start) (drop start (now (pack .entry))))) ⌝ }
-    ensures inside { λ r. ⌜ PlaceInside (now (pack .entry)) r ⌝ }
-{
-    match read(tag, &pack[start..end]) {
-        Reading::Record(record) => AtPlace::Record {
-            record,
-            start,
-            len: end - start,
-        },
-        Reading::Refused(f) => AtPlace::Refused(f),
-    }
-}
-
 // What stands at a place of a pack, which need not be where a record of the pack starts.
 pub fn read_at(pack: &[u8], at: usize) -> AtPlace
-    ensures { λ r. ⌜ placeOf (now (pack .entry)) r ≡ recordAt packLimit (now (pack .entry)) at ⌝ }
-    ensures inside { λ r. ⌜ PlaceInside (now (pack .entry)) r ⌝ }
+    ensures { λ r. ⌜ placeOf (now (pack .entry)) r ≡ thereFrom (at + 32) (recordAt packLimit (now (pack .entry)) at) ⌝ }
+    ensures inside { λ r. ⌜ PlaceInside (now (pack .entry)) at r ⌝ }
 {
     if pack.len() <= at {
         return AtPlace::Outside;
@@ -230,9 +279,14 @@ pub fn read_at(pack: &[u8], at: usize) -> AtPlace
         Step::End => AtPlace::Outside,
         Step::Fault(f) => AtPlace::Fault(f, at),
         Step::Record(h) => {
-            let start = at + RecordHeader::LENGTH;
-            let end = start + h.length as usize;
-            read_between(h.tag, pack, start, end)
+            let value = Place {
+                start: at + RecordHeader::LENGTH,
+                len: h.length as usize,
+            };
+            match read(h.tag, pack, value) {
+                Reading::Record(record) => AtPlace::Record { record, value },
+                Reading::Refused(f) => AtPlace::Refused(f),
+            }
         }
     }
 }

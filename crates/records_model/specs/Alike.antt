@@ -5,10 +5,13 @@ use mathlib.Core.List.{List}
 use mathlib.Core.Option.{Option, some, none as nothing}
 use mathlib.Core.Path.{_≡_, refl, ap, _∙_}
 use native.Mathlib.Omega.{arith}
+use Rattle.msgpack.specs.Lookup.{over}
+use Rattle.msgpack.specs.Views.{Both, both, neither, Each, no-more, and-each, SameUnder, both-found, both-missing, both-broken, SeenAlike}
 use Rattle.msgpack_model.specs.Values.{Value, Binary, Array, Map, Values, no-values, value, Pairs, no-pairs, pair, depth, valuesDepth, pairsDepth, asBoolean, asInteger, asText, asBinary, asArray, asMap}
 use Rattle.msgpack_model.specs.Encoding.{Encodes}
 use Rattle.msgpack_model.specs.Unique.{one-value}
 use Rattle.msgpack_model.specs.Lookup.{isText, keyIs, lastFrom, lastIn, timesKey}
+use Rattle.msgpack_model.specs.Views.{listOf, foundBy, underIn, timesIn, valueView}
 
 -- the least such relation: a swap of neighbours, anywhere and as often as wanted, makes every order
 mutual
@@ -65,21 +68,16 @@ same-of f b a m (arrays {vs = vs} {ws = ws} x) = a vs ws
 same-of f b a m (maps {ps = ps} {qs = qs} x) = m ps qs
 same-of f b a m (embedded {e = e} {f = d} x y z) = b e d
 
-pub same-text : {v w : Value} → Alike v w → asText v ≡ asText w
+same-text : {v w : Value} → Alike v w → asText v ≡ asText w
 same-text = same-of asText (λ e d. refl) (λ vs ws. refl) (λ ps qs. refl)
 
-pub same-integer : {v w : Value} → Alike v w → asInteger v ≡ asInteger w
+same-integer : {v w : Value} → Alike v w → asInteger v ≡ asInteger w
 same-integer = same-of asInteger (λ e d. refl) (λ vs ws. refl) (λ ps qs. refl)
 
-pub same-boolean : {v w : Value} → Alike v w → asBoolean v ≡ asBoolean w
+same-boolean : {v w : Value} → Alike v w → asBoolean v ≡ asBoolean w
 same-boolean = same-of asBoolean (λ e d. refl) (λ vs ws. refl) (λ ps qs. refl)
 
 -- ---- what is alike
-
--- both are there and related, or neither is
-pub data Both {A : Type 0} (R : A → A → Type 0) : Option A → Option A → Type 0 where
-  both : {a b : A} → R a b → Both R (some a) (some b)
-  neither : Both R nothing nothing
 
 both-same : {A : Type 0} {R : A → A → Type 0} → ((a : A) → R a a) → (o : Option A) → Both R o o
 both-same r (some a) = both (r a)
@@ -101,14 +99,14 @@ pairs-same : (ps : Pairs) → AlikePairs ps ps
 pairs-same no-pairs = no-pairs-alike
 pairs-same (pair k v ps) = next-pair (same k) (same v) (pairs-same ps)
 
-pub alike-array : {v w : Value} → Alike v w → Both AlikeValues (asArray v) (asArray w)
+alike-array : {v w : Value} → Alike v w → Both AlikeValues (asArray v) (asArray w)
 alike-array (same v) = both-same values-same (asArray v)
 alike-array (and-then x y) = both-and (λ us vs ws. values-and) (alike-array x) (alike-array y)
 alike-array (arrays x) = both x
 alike-array (maps x) = neither
 alike-array (embedded x y z) = neither
 
-pub alike-map : {v w : Value} → Alike v w → Both AlikePairs (asMap v) (asMap w)
+alike-map : {v w : Value} → Alike v w → Both AlikePairs (asMap v) (asMap w)
 alike-map (same v) = both-same pairs-same (asMap v)
 alike-map (and-then x y) = both-and (λ ps qs rs. and-further) (alike-map x) (alike-map y)
 alike-map (arrays x) = neither
@@ -149,7 +147,7 @@ module _ (key : List ℕ) where
   same-key : {k l : Value} → Alike k l → keyIs key k ≡ keyIs key l
   same-key x = ap (isText key) (same-text x)
 
-  pub same-times : {ps qs : Pairs} → AlikePairs ps qs → timesKey key ps ≡ timesKey key qs
+  same-times : {ps qs : Pairs} → AlikePairs ps qs → timesKey key ps ≡ timesKey key qs
   same-times no-pairs-alike = refl
   same-times (next-pair x y xs) = rw (same-key x, same-times xs)
   same-times (swapped k v l w ps) = omega arith
@@ -168,5 +166,33 @@ module _ (key : List ℕ) where
   alike-from (and-further y z) h x = both-and (λ u v w. and-then) (alike-from y h x) (alike-from z (omega (arith, same-times y)) (both-same same _))
 
   -- where the key does not repeat
-  pub alike-lookup : {ps qs : Pairs} → AlikePairs ps qs → timesKey key ps ≤ 1 → Both Alike (lastIn key ps) (lastIn key qs)
+  alike-lookup : {ps qs : Pairs} → AlikePairs ps qs → timesKey key ps ≤ 1 → Both Alike (lastIn key ps) (lastIn key qs)
   alike-lookup x h = alike-from x h neither
+
+-- ---- what is seen of values alike
+
+items-alike : {v w : Value} → Alike v w → Both (Each Alike) (valueView .items v) (valueView .items w)
+items-alike x = by (alike-array x)
+  where
+    each : {vs ws : Values} → AlikeValues vs ws → Each Alike (listOf vs) (listOf ws)
+    each no-values-alike = no-more
+    each (next y ys) = and-each y (each ys)
+
+    by : {o p : Option Values} → Both AlikeValues o p → Both (Each Alike) (over listOf o) (over listOf p)
+    by (both y) = both (each y)
+    by neither = neither
+
+pub seen-alike : SeenAlike valueView valueView Alike
+seen-alike = record { integer = same-integer; boolean = same-boolean; text = same-text; items = items-alike }
+
+-- under a key that does not repeat
+pub under-alike : (key : List ℕ) {v w : Value} → Alike v w → valueView .times key v ≤ 1 → SameUnder Alike (valueView .under key v) (valueView .under key w)
+under-alike key {v} {w} x once = by (alike-map x) once
+  where
+    at : {o p : Option Value} → Both Alike o p → SameUnder Alike (foundBy o) (foundBy p)
+    at (both y) = both-found y
+    at neither = both-missing
+
+    by : {o p : Option Pairs} → Both AlikePairs o p → timesIn key o ≤ 1 → SameUnder Alike (underIn key o) (underIn key p)
+    by (both y) h = at (alike-lookup key y h)
+    by neither h = both-broken

@@ -2,6 +2,7 @@
 use Prim.Native.Nat.{ℕ, _+_, _<_}
 use mathlib.Core.Bool.{Bool, true, false, _&&_, true≢false}
 use mathlib.Core.List.{List, [], _∷_, _++_}
+use mathlib.Core.Option.{some}
 use mathlib.Core.Path.{_≡_, refl}
 use native.Mathlib.Omega.{arith}
 use borrow.Author.Tests.{leb-true, ltb-true}
@@ -16,26 +17,26 @@ use Rattle.endian.specs.Places.{holds, numberAt}
 use Rattle.msgpack.specs.Formats.{formats, formatOf}
 use Rattle.msgpack.specs.Items.{headOf, passItems, passHead, passItem}
 use Rattle.msgpack.specs.Readers.{isWhole, plus, integerOf, contentAt, readInteger, countAt}
-use Rattle.msgpack.specs.Lookup.{keyAt, lastWhere, lastValue, under}
+use Rattle.msgpack.specs.Lookup.{keyAt, lastWhere, lastValue}
+use Rattle.msgpack.specs.Views.{textAt, itemsFrom}
 use Rattle.msgpack_model.specs.Values.{Value, Integer, Text, Binary, Array, Map, no-values, value, Pairs, no-pairs, pair}
 use Rattle.msgpack_model.specs.Encoding.{fixstr, str8, bin8, bin16, fixarray, fixmap, map16, positive-fixint, uint16, text, binary, Encodes, scalar, array, map, none, next, no-pair, next-pair}
 use Rattle.msgpack_model.specs.Unique.{one-value}
-use Rattle.msgpack_model.specs.Lookup.{timesKey}
+use Rattle.msgpack_model.specs.Views.{valueView}
 use Rattle.msgpack_model.specs.Writers.{number-written}
 use Rattle.identifier.specs.Texts.{member, all}
 use Rattle.identifier.specs.Ulid.{alphabet, isCharacter, isUlid}
 use Rattle.identifier.specs.Identity.{sized, isBucket, isObject, identity, isValid, identityOf}
-use Rattle.value.specs.Header.{primaryKey, secondaryKey, lengthKey, compressionKey}
-use Rattle.value.specs.Fields.{readNatural, naturalUnder, bytesUnder, isThere}
+use Rattle.value.specs.Header.{primaryKey, secondaryKey, lengthKey, compressionKey, headerKeys, secondaryKeys, coding, Telling, tellingAlone}
+use Rattle.value.specs.Fields.{naturalUnder, bytesUnder, isThere}
 use Rattle.value.specs.Header as bytes
 use Rattle.value.specs.Reading.{reading}
-use Rattle.primary.specs.Parts.{bucketKey, objectKey, ulidKey, identifierKey, fills, textAt, textUnder, textsUnder, shapeAt, shapeUnder}
+use Rattle.primary.specs.Parts.{bucketKey, objectKey, ulidKey, identifierKey, blockKeys, identityKeys, fills, textUnder, textsUnder, shapeAt, shapeUnder}
 use Rattle.primary.specs.Parts as part
 use Rattle.records.specs.Record.{blockTag, isKnown, block, contents, toldRows, readRecord}
 use Rattle.records_model.specs.Alike.{Alike, same, maps, arrays, embedded, next as next-alike, no-values-alike, next-pair as next-pair-alike, no-pairs-alike, swapped, and-further}
-use Rattle.records_model.specs.Header.{coding, Telling, tellingAlone}
 use Rattle.records_model.specs.Record.{RecordHeld, recordIn}
-use Rattle.records_model.specs.NoRepeats.{OnceEach, NoRepeat, headerKeys, secondaryKeys, blockKeys, identityKeys, BlockNoRepeat, NoRepeats}
+use Rattle.records_model.specs.NoRepeats.{NoRepeat, BlockNoRepeat, NoRepeats}
 use Rattle.records_model.specs.AnswersAlike.{AnswersAlike, same-refusal, both-read, SameRecord}
 use Rattle.records_model.specs.TwoSites.{records-alike}
 
@@ -137,8 +138,8 @@ pub record Computed : Type 0 where
 
 pub computed : Computed
 unfolding readRecord reading passItem passHead headOf numberAt holds formatOf passItems big little formats bytes.header
-    bytes.alone bytes.withList bytes.withMap bytesUnder under lastValue lastWhere keyAt sameBytes contentAt isWhole
-    naturalUnder readNatural readInteger integerOf isThere countAt lowest toldRows isKnown contents part.block fills
+    bytes.telling bytes.alone bytes.withList bytes.withMap itemsFrom bytesUnder lastValue lastWhere keyAt sameBytes contentAt isWhole
+    naturalUnder readInteger integerOf isThere countAt lowest toldRows isKnown contents part.block fills
     shapeUnder shapeAt textAt textsUnder textUnder identityOf isValid isUlid isCharacter alphabet isBucket isObject
     sized member all bigBytes littleBytes
 computed = record { here = refl; there = refl; last-is-0 = refl; last-is-1 = refl }
@@ -217,26 +218,35 @@ sites-alike =
     (next-pair-alike (same _) (arrays (next-alike (maps (swapped _ _ _ _ no-pairs)) no-values-alike)) no-pairs-alike)))
 
 -- the premise, tested
-onceEach : List (List ℕ) → Pairs → Bool
-onceEach [] ps = true
-onceEach (key ∷ keys) ps = leb (timesKey key ps) 1 && onceEach keys ps
+onceEach : List (List ℕ) → Value → Bool
+onceEach [] m = true
+onceEach (key ∷ keys) m = leb (valueView .times key m) 1 && onceEach keys m
 
-once-each : (keys : List (List ℕ)) (ps : Pairs) → onceEach keys ps ≡ true → OnceEach keys ps
+no-repeat : (keys : List (List ℕ)) (m : Value) → onceEach keys m ≡ true → NoRepeat keys m
 unfolding onceEach
-once-each [] ps e = tt
-once-each (key ∷ keys) ps e = let p = both (leb (timesKey key ps) 1) (onceEach keys ps) e in (leb-true _ _ (p .0), once-each keys ps (p .1))
-
-no-repeat : (keys : List (List ℕ)) (ps : Pairs) → onceEach keys ps ≡ true → (m : Value) → Map ps ≡ m → NoRepeat keys m
-no-repeat keys ps e m is = rw (← is) (record { once = λ qs i. let same : ps ≡ qs = cc in rw (← same) (once-each keys ps e) })
+no-repeat [] m e = tt
+no-repeat (key ∷ keys) m e = let p = both (leb (valueView .times key m) 1) (onceEach keys m) e in (leb-true _ _ (p .0), no-repeat keys m (p .1))
 
 part-no-repeat : BlockNoRepeat herePart
 unfolding onceEach sameBytes
-part-no-repeat = record { part = no-repeat blockKeys _ refl herePart refl; identifier = λ i q. no-repeat identityKeys hereIdentity refl i (cc) }
+part-no-repeat = record {
+  part = no-repeat blockKeys herePart refl;
+  identifier = λ i q. let is : Map hereIdentity ≡ i = cc in rw (← is) (no-repeat identityKeys (Map hereIdentity) refl);
+}
+
+listed : {a : Value} (b : Value) → some (a ∷ []) ≡ some (b ∷ []) → a ≡ b
+listed b e = cc
 
 no-repeats : NoRepeats blockTag hereHeader
 unfolding onceEach sameBytes
 no-repeats = record {
-  header = record { header = no-repeat headerKeys _ refl hereHeader refl; secondary = λ l s i j. no-repeat secondaryKeys hereSecondary refl s (cc) };
+  header = record {
+    header = no-repeat headerKeys hereHeader refl;
+    secondary = λ l s i j.
+        let list : Array (value (Map hereSecondary) no-values) ≡ l = cc in
+        let is : Map hereSecondary ≡ s = listed s (rw (← list) at j) in
+        rw (← is) (no-repeat secondaryKeys (Map hereSecondary) refl);
+  };
   primary = λ e p i x.
       let is : herePartBytes ≡ e = cc in
       record {

@@ -1,7 +1,7 @@
 -- Every encoding of a header is read as the header is, and a value holds what its header and the bytes after it say.
-use Prim.Native.Nat.{ℕ, suc, _+_, _≤_}
+use Prim.Native.Nat.{ℕ, _+_, _≤_}
 use mathlib.Core.Bool.{Bool, true, false, cond}
-use mathlib.Core.List.{List, [], _++_, append-assoc, append-nil}
+use mathlib.Core.List.{List, _++_}
 use mathlib.Core.Option.{Option, none, some}
 use mathlib.Core.Path.{_≡_, refl, sym, ap, _∙_}
 use native.Mathlib.Omega.{arith}
@@ -9,42 +9,33 @@ use borrow.Author.Tests.{leb-true, leb-false, eq-eqb, ne-eqb, eqb-true, eqb-fals
 use lib.Dec.{leb, eqb}
 use lib.ListN.{length, take, drop, length-append}
 use lib.Seq.{drop-drop, take-append-seam, drop-append-seam}
-use Rattle.slices.specs.Logic.{absurd-numbers}
 use Rattle.refusals.specs.Answers.{Answer, refused, result}
 use Rattle.msgpack.specs.Items.{whole, depthAllowed}
-use Rattle.msgpack.specs.Readers.{content, contentOfPart, readBinary, Counted, counted}
+use Rattle.msgpack.specs.Readers.{content, contentOfPart, readBinary}
 use Rattle.msgpack.specs.Readers as msgpack
-use Rattle.msgpack.specs.Lookup.{under, ifThere}
-use Rattle.msgpack_model.specs.Values.{Value, Values, countValues, depth, valuesDepth, asBinary, asArray}
-use Rattle.msgpack_model.specs.Encoding.{Encodes, EncodesValues}
-use Rattle.msgpack_model.specs.Encoding as encoding
+use Rattle.msgpack.specs.Lookup.{Under, found, missing, broken, lastValue, atPlace, over}
+use Rattle.msgpack.specs.Views.{frontOf, byteView, SameUnder, both-found, both-missing, both-broken}
+use Rattle.msgpack_model.specs.Values.{Value, depth, asBinary}
+use Rattle.msgpack_model.specs.Encoding.{Encodes}
 use Rattle.msgpack_model.specs.Complete.{complete}
 use Rattle.msgpack_model.specs.Deep.{deeper}
-use Rattle.msgpack_model.specs.Readers.{scalar-no-array, integer-reads, binary-reads, array-reads, ArrayRead, is-array, no-array}
-use Rattle.value.specs.Fields.{atLeastZero, readNatural, naturalUnder, shifted, bytesUnder}
-use Rattle.value.specs.Header.{primaryKey, secondaryKey, lengthKey, compressionKey, encryptionKey, versionKey, onlyIf, toldAlone, toldWith}
+use Rattle.msgpack_model.specs.Readers.{binary-reads}
+use Rattle.msgpack_model.specs.Views.{valueView, Shows, shown, bytes-alike, keys-alike}
+use Rattle.value.specs.Fields.{shifted}
+use Rattle.value.specs.Fields as bytes-fields
+use Rattle.value.specs.Header.{primaryKey, headerKeys, secondaryKeys, Telling, telling, Header, headerBy, toldIn, tellingOf}
 use Rattle.value.specs.Header as bytes
+use Rattle.value.specs.HeadersAlike.{telling-alike}
 use Rattle.value.specs.Reading as value-reading
 use Rattle.value.specs.Reading.{reading}
-use Rattle.value.specs.ReadingLaws.{primary-is, is-told, primary-content, secondary-content}
+use Rattle.value.specs.ReadingLaws.{is-told, primary-content, secondary-content}
 use Rattle.value.specs.declared.Told.{Told}
-use Rattle.records_model.specs.Under.{over, valueUnder, hasKey, over-under, under-reads, there-reads}
-use Rattle.records_model.specs.Header.{Telling, coding, naturalOf, tellingAlone, alone, tellingWith, withMap, withItems, withList, telling, Header, header, Held, filledBy, holds}
+use Rattle.records_model.specs.Header.{bytesUnder, header, Held, filledBy, holds}
 
 -- ---- what the reading tells, with no places
 
-abbrev pub tellingOf : Told → Telling
-tellingOf t =
-    record {
-      version = t .version;
-      primary = coding (t .primary .compression) (t .primary .encrypted);
-      present = t .present;
-      length = t .secondary .len;
-      secondary = coding (t .secondary .compression) (t .secondary .encrypted);
-    }
-
 -- of the header m
-abbrev pub headerIn : List ℕ → Told → Header
+abbrev pub headerIn : List ℕ → Told → Header (List ℕ)
 headerIn m t = record { primary = take (t .primary .len) (drop (t .primary .start) m); told = tellingOf t }
 
 -- of the value s
@@ -60,128 +51,37 @@ abbrev pub answerIn : List ℕ → (Answer Told) → Answer Held
 answerIn s (result t) = result (heldIn s t)
 answerIn s (refused n) = refused n
 
--- ---- what is told of an answer that is there
-
-over-then : {A B C D : Type 0} (f : A → B) (g : C → D) (a : Option A) (b : Option B) (next : A → Option C) (following : B → Option D)
-    → over f a ≡ b → ((x : A) → over g (next x) ≡ following (f x)) → over g (ifThere a next) ≡ ifThere b following
-over-then f g (some x) b next following e h = rw (← e) (h x)
-over-then f g none b next following e h = rw (← e)
-
-over-only : {A B : Type 0} (f : A → B) (t : Bool) (a : Option A) (b : Option B) → over f a ≡ b → over f (onlyIf t a) ≡ onlyIf t b
-over-only f true a b e = e
-over-only f false a b e = refl
-
--- ---- fields
-
-natural-at : (w : Value) (f q s : List ℕ) → s ≡ f ++ q → Encodes w f → readNatural s ≡ naturalOf w
-unfolding readNatural
-natural-at w f q s h y = rw h (ap atLeastZero (integer-reads y q))
-
--- the content of bytes at a place
-bytes-at : (k : ℕ) (w : Value) (f q s : List ℕ) → drop k s ≡ f ++ q → Encodes w f → over (content s) (shifted k (readBinary (drop k s))) ≡ asBinary w
-bytes-at k w f q s h y = by (readBinary (drop k s)) ∙ rw h (binary-reads y q)
-  where
-    by : (r : Option msgpack.Part) → over (content s) (shifted k r) ≡ contentOfPart (drop k s) r
-    by (some p) = ap (λ l. some (take (p .size) l)) (sym (drop-drop (p .start) k s))
-    by none = refl
-
-module _ {v : Value} {e : List ℕ} (x : Encodes v e) (d : depth v ≤ depthAllowed) (rest : List ℕ) where
-  natural-under : (key : List ℕ) (absent : Option ℕ) → naturalUnder key (e ++ rest) absent ≡ valueUnder key v absent naturalOf
-  unfolding naturalUnder
-  natural-under key absent = under-reads key x d rest absent _ naturalOf λ k w f q h y l. natural-at w f q (drop k (e ++ rest)) h y
-
-  alone-telling : (b : msgpack.Part) → bytesUnder primaryKey (e ++ rest) ≡ some b → over tellingOf (bytes.alone (e ++ rest)) ≡ alone v
-  unfolding bytes.alone alone
-  alone-telling b q =
-      rw (q, natural-under compressionKey (some 0), natural-under versionKey (some 0))
-      (by (valueUnder compressionKey v (some 0) naturalOf) (valueUnder versionKey v (some 0) naturalOf))
-    where
-      by : (c n : Option ℕ) → over tellingOf (ifThere c λ c. ifThere n λ n. some (toldAlone (e ++ rest) b c n))
-          ≡ ifThere c λ c. ifThere n λ n. some (tellingAlone n c (hasKey encryptionKey v))
-      by (some c) (some n) = rw (there-reads encryptionKey x d rest)
-      by (some c) none = refl
-      by none n = refl
-
-  map-telling : (limit : ℕ) (t : Told) → over tellingOf (bytes.withMap limit t (e ++ rest)) ≡ withMap limit (tellingOf t) v
-  unfolding bytes.withMap withMap
-  map-telling limit t =
-      rw (natural-under lengthKey none, natural-under compressionKey (some (t .primary .compression)))
-      (by (valueUnder lengthKey v none naturalOf) (valueUnder compressionKey v (some (t .primary .compression)) naturalOf))
-    where
-      by : (l c : Option ℕ) → over tellingOf (ifThere l λ l. onlyIf (leb l limit) (ifThere c λ c. some (toldWith t (e ++ rest) l c)))
-          ≡ ifThere l λ l. onlyIf (leb l limit) (ifThere c λ c. some (tellingWith (tellingOf t) l c (hasKey encryptionKey v)))
-      by (some l) (some c) = over-only tellingOf (leb l limit) _ _ (rw (there-reads encryptionKey x d rest))
-      by (some l) none = over-only tellingOf (leb l limit) _ _ refl
-      by none c = refl
-
--- ---- the list under `s`
-
-array-depth : {v : Value} {e : List ℕ} → Encodes v e → (vs : Values) → asArray v ≡ some vs → depth v ≡ suc (valuesDepth vs)
-array-depth (encoding.scalar x) vs q = absurd-numbers (cc (scalar-no-array x))
-array-depth (encoding.array {vs = ws} x xs) vs q = let is : ws ≡ vs = cc in rw is
-array-depth (encoding.map x xs) vs q = absurd-numbers (cc)
-
-module _ (limit : ℕ) (t : Told) where
-  items-telling : (size : ℕ) (q s : List ℕ) {vs : Values} {items : List ℕ} → EncodesValues vs items → valuesDepth vs ≤ depthAllowed → drop size s ≡ items ++ q
-      → over tellingOf (bytes.withItems limit t s (some (counted (countValues vs) size))) ≡ withItems limit (tellingOf t) vs
-  items-telling size q s encoding.none d h = refl
-  items-telling size q s (encoding.next {e = e} y encoding.none) d h = rw (h, append-assoc e [] q) (map-telling y (omega arith) q limit t)
-  items-telling size q s (encoding.next y (encoding.next {vs = vs} z ys)) d h =
-      let n : ℕ = suc (suc (countValues vs)) in
-      rw (ne-eqb n 0 (λ (i : n ≡ 0). omega arith), ne-eqb n 1 (λ (i : n ≡ 1). omega arith))
-
-  list-telling : (w : Value) (f q s : List ℕ) → s ≡ f ++ q → Encodes w f → depth w ≤ depthAllowed
-      → over tellingOf (bytes.withList limit t s) ≡ withList limit (tellingOf t) w
-  unfolding bytes.withList withList
-  list-telling w f q s h y d = rw h (by (asArray w) (λ vs i. array-depth y vs i) (array-reads y q))
-    where
-      by : {c : Option Counted} (o : Option Values) → ((vs : Values) → o ≡ some vs → depth w ≡ suc (valuesDepth vs)) → ArrayRead (f ++ q) q c o
-          → over tellingOf (bytes.withItems limit t (f ++ q) c) ≡ ifThere o (withItems limit (tellingOf t))
-      by o inner (is-array {vs = vs} {size = size} l k ys) = items-telling size q (f ++ q) ys (omega (arith, inner vs refl)) k
-      by o inner no-array = refl
-
 -- ---- the header
 
-module _ (limit : ℕ) {v : Value} {e : List ℕ} (x : Encodes v e) (d : depth v ≤ depthAllowed) (rest : List ℕ) where
-  -- where the bytes under `e` are, and what they are
-  bytes-under : over (content (e ++ rest)) (bytesUnder primaryKey (e ++ rest)) ≡ valueUnder primaryKey v none asBinary
-  unfolding bytesUnder
-  bytes-under = over-under primaryKey x d rest (content (e ++ rest)) none _ asBinary λ k w f q h y l. bytes-at k w f q (e ++ rest) h y
+-- the bytes at a place, by their content
+bytes-at : (s : List ℕ) (p : ℕ) → over (content s) (shifted p (readBinary (drop p s))) ≡ contentOfPart (drop p s) (readBinary (drop p s))
+bytes-at s p = by (readBinary (drop p s))
+  where
+    by : (r : Option msgpack.Part) → over (content s) (shifted p r) ≡ contentOfPart (drop p s) r
+    by (some b) = ap (λ l. some (take (b .size) l)) (sym (drop-drop (b .start) p s))
+    by none = refl
 
-  under-telling : (t : Told) → over tellingOf (under secondaryKey (e ++ rest) (some t) (λ p. bytes.withList limit t (drop p (e ++ rest))))
-      ≡ valueUnder secondaryKey v (some (tellingOf t)) (withList limit (tellingOf t))
-  under-telling t = over-under secondaryKey x d rest tellingOf (some t) _
-      (withList limit (tellingOf t)) λ k w f q h y l. list-telling limit t w f q (drop k (e ++ rest)) h y (omega arith)
-
-  header-telling : over tellingOf (bytes.header limit (e ++ rest)) ≡ ifThere (valueUnder primaryKey v none asBinary) λ b. telling limit v
-  unfolding bytes.header bytes.alone telling
-  header-telling = rw (← bytes-under) (by (bytesUnder primaryKey (e ++ rest)) refl)
+module _ {s : List ℕ} {v : Value} (x : Shows s v) where
+  bytes-under : over (content s) (bytes-fields.bytesUnder primaryKey s) ≡ bytesUnder primaryKey v
+  unfolding bytes-fields.bytesUnder
+  bytes-under = by (lastValue primaryKey s) (keys-alike headerKeys x .0)
     where
-      by : (b : Option msgpack.Part) → bytesUnder primaryKey (e ++ rest) ≡ b
-          → over tellingOf (bytes.header limit (e ++ rest)) ≡ ifThere (over (content (e ++ rest)) b) λ c. telling limit v
-      by (some b) q =
-          over-then tellingOf tellingOf (bytes.alone (e ++ rest)) (alone v)
-          (λ t. under secondaryKey (e ++ rest) (some t) (λ p. bytes.withList limit t (drop p (e ++ rest))))
-          (λ t. valueUnder secondaryKey v (some t) (withList limit t)) (alone-telling x d rest b q) under-telling
-      by none q = rw q
+      by : (r : Under ℕ) {o : Under Value} → SameUnder Shows (frontOf s r) o
+          → over (content s) (atPlace none (λ p. shifted p (readBinary (drop p s))) r) ≡ atPlace none asBinary o
+      by (found p) (both-found y) = bytes-at s p ∙ ap (λ t. contentOfPart t (readBinary t)) (y .is) ∙ binary-reads (y .encodes) (y .rest)
+      by missing both-missing = refl
+      by broken both-broken = refl
 
-  pub header-reads : over (headerIn (e ++ rest)) (bytes.header limit (e ++ rest)) ≡ header limit v
-  unfolding header
-  header-reads = by (bytes.header limit (e ++ rest)) refl (valueUnder primaryKey v none asBinary) refl
+  pub header-reads : (limit : ℕ) → over (headerIn s) (bytes.header limit s) ≡ header limit v
+  unfolding bytes.header header
+  header-reads limit =
+      rw (← bytes-under, ← telling-alike byteView valueView Shows bytes-alike limit s v (keys-alike headerKeys x) (λ l a b q i y. keys-alike secondaryKeys y))
+      (by (bytes-fields.bytesUnder primaryKey s) (telling byteView limit s))
     where
-      by : (h : Option Told) → bytes.header limit (e ++ rest) ≡ h → (b : Option (List ℕ)) → valueUnder primaryKey v none asBinary ≡ b
-          → over (headerIn (e ++ rest)) h ≡ ifThere b λ b. ifThere (telling limit v) λ t. some (record { primary = b; told = t })
-      by h q none r = nothing h q
-        where
-          nothing : (h : Option Told) → bytes.header limit (e ++ rest) ≡ h → over (headerIn (e ++ rest)) h ≡ none
-          nothing none i = refl
-          nothing (some t) i = absurd-numbers (cc header-telling)
-      by none q (some b) r = let t : telling limit v ≡ none = sym (rw (q, r) at header-telling) in rw t
-      by (some t) q (some b) r =
-          let told : telling limit v ≡ some (tellingOf t) = sym (rw (q, r) at header-telling) in
-          let held : some (headerIn (e ++ rest) t .primary) ≡ some b = rw (primary-is limit (e ++ rest) t q, r) at bytes-under in
-          let is : headerIn (e ++ rest) t .primary ≡ b = cc in
-          rw (told, is)
+      by : (b : Option msgpack.Part) (t : Option Telling) → over (headerIn s) (over (toldIn s) (headerBy b t)) ≡ headerBy (over (content s) b) t
+      by (some b) (some t) = refl
+      by (some b) none = refl
+      by none t = refl
 
 -- ---- the value
 
@@ -215,7 +115,7 @@ module _ (limit : ℕ) {v : Value} {e : List ℕ} (x : Encodes v e) (rest : List
   whole-reads d = rw (← own) (by (bytes.header limit e) refl)
     where
       own : over (headerIn e) (bytes.header limit e) ≡ header limit v
-      own = rw append-nil at (header-reads limit x d [])
+      own = header-reads (shown x d) limit
 
       by : (h : Option Told) → bytes.header limit e ≡ h → answerIn (e ++ rest) (reading limit (e ++ rest)) ≡ filledBy rest (over (headerIn e) h)
       by none q = rw (by-header d, q)

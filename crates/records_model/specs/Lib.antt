@@ -1,5 +1,4 @@
 pub mod Alike
-pub mod Under
 pub mod Header
 pub mod HeaderReads
 pub mod Primary

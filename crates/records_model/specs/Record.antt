@@ -1,19 +1,20 @@
 -- A record by what its header and primary part tell as values: refusals 10 to 18 over the data model.
 use Prim.Native.Nat.{ℕ}
-use mathlib.Core.Bool.{cond, not, _||_}
-use mathlib.Core.List.{List, [], _∷_, _++_}
+use mathlib.Core.Bool.{cond}
+use mathlib.Core.List.{List, _++_}
 use mathlib.Core.Option.{Option, none, some}
 use mathlib.Core.Path.{_≡_, refl, ap}
 use lib.Dec.{eqb}
 use Rattle.slices.specs.Logic.{absurd-numbers}
-use Rattle.refusals.specs.Sheet.{Row, lowest}
+use Rattle.refusals.specs.Sheet.{lowest}
 use Rattle.refusals.specs.Answers.{Answer, refused, result, unless}
 use Rattle.msgpack_model.specs.Values.{Value}
 use Rattle.msgpack_model.specs.Encoding.{Encodes}
+use Rattle.value.specs.Header.{tellingOf}
 use Rattle.value.specs.Reading.{reading}
 use Rattle.value.specs.declared.Told.{Told}
-use Rattle.records.specs.Record.{blockTag, versionTag, isKnown, Contents, ofBlock, ofVersion, ofVersionDelete, contents, Record, toldRows, primaryIn, withTold, byValue, readRecord}
-use Rattle.records_model.specs.Header.{Telling, Held, holds}
+use Rattle.records.specs.Record.{blockTag, versionTag, Contents, ofBlock, ofVersion, ofVersionDelete, contents, Record, toldRows, primaryIn, withTold, byValue, readRecord}
+use Rattle.records_model.specs.Header.{Held, holds}
 use Rattle.records_model.specs.HeaderReads.{heldIn, answerIn, value-reads}
 use Rattle.records_model.specs.Primary.{block, version, versionDelete, block-reads, version-reads, version-delete-reads}
 
@@ -43,16 +44,8 @@ abbrev pub withHeld : Held → Answer Contents → Answer RecordHeld
 withHeld h (result c) = result (record { held = h; contents = c })
 withHeld h (refused n) = refused n
 
--- 13 to 15
-unfoldable pub tellingRows : ℕ → Telling → List Row
-tellingRows tag t =
-    record { number = 13; applies = not (isKnown tag) }
-    ∷ record { number = 14; applies = not (eqb (t .version) 0) }
-    ∷ record { number = 15; applies = t .primary .encrypted || not (eqb (t .primary .compression) 0) }
-    ∷ []
-
 abbrev pub byHeld : ℕ → Answer Held → Answer RecordHeld
-byHeld tag (result h) = unless (lowest (tellingRows tag (h .told))) (withHeld h (contents tag (h .primary)))
+byHeld tag (result h) = unless (lowest (toldRows tag (h .told))) (withHeld h (contents tag (h .primary)))
 byHeld tag (refused n) = refused n
 
 -- of the record with this tag whose value is the header m and what follows it
@@ -62,7 +55,7 @@ recordHolds limit tag m rest = byHeld tag (holds limit m rest)
 -- every encoding is read so
 pub record-reads : (limit tag : ℕ) {v : Value} {e : List ℕ} → Encodes v e → (rest : List ℕ)
     → recordIn (e ++ rest) (readRecord limit tag (e ++ rest)) ≡ recordHolds limit tag v rest
-unfolding readRecord recordHolds toldRows tellingRows
+unfolding readRecord recordHolds toldRows
 record-reads limit tag {e = e} x rest = rw (← value-reads limit x rest) (by (reading limit (e ++ rest)))
   where
     with-told : (t : Told) (r : Option ℕ) (c : Answer Contents) → recordIn (e ++ rest) (unless r (withTold t c)) ≡ unless r (withHeld (heldIn (e ++ rest) t) c)
@@ -71,7 +64,7 @@ record-reads limit tag {e = e} x rest = rw (← value-reads limit x rest) (by (r
     with-told t none (refused n) = refl
 
     by : (a : Answer Told) → recordIn (e ++ rest) (byValue tag (e ++ rest) a) ≡ byHeld tag (answerIn (e ++ rest) a)
-    by (result t) = with-told t (lowest (toldRows tag t)) (contents tag (primaryIn (e ++ rest) t))
+    by (result t) = with-told t (lowest (toldRows tag (tellingOf t))) (contents tag (primaryIn (e ++ rest) t))
     by (refused n) = refl
 
 -- ---- from what is held back to the record, which tells it by places

@@ -11,16 +11,16 @@ use Rattle.slices.specs.Logic.{absurd-numbers}
 use Rattle.refusals.specs.Sheet.{lowest}
 use Rattle.refusals.specs.Answers.{Answer, refused, result, unless}
 use Rattle.msgpack.specs.Items.{depthAllowed}
-use Rattle.msgpack.specs.Lookup.{ifThere}
-use Rattle.msgpack_model.specs.Values.{Value, depth, asBinary}
+use Rattle.msgpack.specs.Views.{Both, both, neither}
+use Rattle.msgpack_model.specs.Values.{Value, depth}
 use Rattle.msgpack_model.specs.Encoding.{Encodes}
-use Rattle.value.specs.Header.{primaryKey}
-use Rattle.records.specs.Record.{blockTag, versionTag, versionDeleteTag, isKnown, Contents, ofBlock, ofVersion, ofVersionDelete, contents}
-use Rattle.records_model.specs.Alike.{Alike, AlikeBytes, same-bytes, encodings, Both, both, neither, same-depth}
-use Rattle.records_model.specs.Under.{valueUnder}
-use Rattle.records_model.specs.Header.{Telling, telling, Header, header, Held, filledBy, holds}
+use Rattle.msgpack_model.specs.Views.{valueView}
+use Rattle.value.specs.Header.{primaryKey, Telling, telling, Header, headerBy}
+use Rattle.records.specs.Record.{blockTag, versionTag, versionDeleteTag, isKnown, Contents, ofBlock, ofVersion, ofVersionDelete, contents, toldRows}
+use Rattle.records_model.specs.Alike.{Alike, AlikeBytes, same-bytes, encodings, same-depth}
+use Rattle.records_model.specs.Header.{bytesUnder, header, Held, filledBy, holds}
 use Rattle.records_model.specs.Primary.{block, version, versionDelete}
-use Rattle.records_model.specs.Record.{contentsOf, contents-reads, tellingRows, withHeld, byHeld, recordHolds}
+use Rattle.records_model.specs.Record.{contentsOf, contents-reads, withHeld, byHeld, recordHolds}
 use Rattle.records_model.specs.NoRepeats.{HeaderNoRepeat, PartNoRepeat, NoRepeats}
 use Rattle.records_model.specs.AnswersAlike.{AnswersAlike, same-refusal, both-read, SameHeld, SameRecord}
 use Rattle.records_model.specs.SameReading.{SameHeader, same-header, same-block, same-version, same-version-delete}
@@ -37,33 +37,33 @@ same-held {v} {w} x h limit rest = rw (same-depth x) (by (leb (depth w) depthAll
     filled true t y = both-read (record { primary = y; secondary = refl; told = refl })
     filled false t y = same-refusal 12
 
-    by : (t : Bool) {o p : Option Header} → Both SameHeader o p
+    by : (t : Bool) {o p : Option (Header (List ℕ))} → Both SameHeader o p
         → AnswersAlike SameHeld (cond t (filledBy rest o) (refused 10)) (cond t (filledBy rest p) (refused 10))
     by true (both {a = k} {b = l} y) = rw (y .told) (filled (eqb (l .told .length) (length rest)) (l .told) (y .primary))
     by true neither = same-refusal 11
     by false y = same-refusal 10
 
 -- the primary part that is held stands under `e`
-header-primary : (limit : ℕ) (v : Value) (h : Header) → header limit v ≡ some h → valueUnder primaryKey v none asBinary ≡ some (h .primary)
+header-primary : (limit : ℕ) (v : Value) (h : Header (List ℕ)) → header limit v ≡ some h → bytesUnder primaryKey v ≡ some (h .primary)
 unfolding header
-header-primary limit v h q = by (valueUnder primaryKey v none asBinary) (telling limit v) q
+header-primary limit v h q = by (bytesUnder primaryKey v) (telling valueView limit v) q
   where
-    by : (b : Option (List ℕ)) (t : Option Telling) → (ifThere b λ b. ifThere t λ t. some (record { primary = b; told = t })) ≡ some h → b ≡ some (h .primary)
+    by : (b : Option (List ℕ)) (t : Option Telling) → headerBy b t ≡ some h → b ≡ some (h .primary)
     by (some b) (some t) i = let is : record { primary = b; told = t } ≡ h = cc in rw (← is)
     by (some b) none i = absurd-numbers (cc)
     by none t i = absurd-numbers (cc)
 
-held-primary : (limit : ℕ) (v : Value) (rest : List ℕ) (h : Held) → holds limit v rest ≡ result h → valueUnder primaryKey v none asBinary ≡ some (h .primary)
+held-primary : (limit : ℕ) (v : Value) (rest : List ℕ) (h : Held) → holds limit v rest ≡ result h → bytesUnder primaryKey v ≡ some (h .primary)
 unfolding holds
 held-primary limit v rest h q = by (leb (depth v) depthAllowed) (header limit v) refl q
   where
-    filled : (b : Bool) (k : Header) → cond b (result (record { primary = k .primary; secondary = rest; told = k .told })) (refused 12)
+    filled : (b : Bool) (k : Header (List ℕ)) → cond b (result (record { primary = k .primary; secondary = rest; told = k .told })) (refused 12)
         ≡ result h → k .primary ≡ h .primary
     filled true k i = let is : record { primary = k .primary; secondary = rest; told = k .told } ≡ h = cc in rw (← is)
     filled false k i = absurd-numbers (cc)
 
-    by : (t : Bool) (o : Option Header) → header limit v ≡ o → cond t (filledBy rest o) (refused 10) ≡ result h
-        → valueUnder primaryKey v none asBinary ≡ some (h .primary)
+    by : (t : Bool) (o : Option (Header (List ℕ))) → header limit v ≡ o → cond t (filledBy rest o) (refused 10) ≡ result h
+        → bytesUnder primaryKey v ≡ some (h .primary)
     by true (some k) i j = header-primary limit v k i ∙ ap some (filled (eqb (k .told .length) (length rest)) k j)
     by true none i j = absurd-numbers (cc)
     by false o i j = absurd-numbers (cc)
@@ -91,8 +91,8 @@ same-contents tag known (encodings {v = p} x y z) h = contents-reads tag x ∙ s
 -- ---- the record
 
 -- where none of 13 to 15 applies
-rows-known : (tag : ℕ) (t : Telling) → lowest (tellingRows tag t) ≡ none → isKnown tag ≡ true
-unfolding lowest tellingRows
+rows-known : (tag : ℕ) (t : Telling) → lowest (toldRows tag t) ≡ none → isKnown tag ≡ true
+unfolding lowest toldRows
 rows-known tag t q = by (isKnown tag) refl
   where
     by : (b : Bool) → isKnown tag ≡ b → isKnown tag ≡ true
@@ -103,8 +103,8 @@ same-record : (tag : ℕ) {a b : Answer Held} → AnswersAlike SameHeld a b
     → ((h : Held) (p : Value) → a ≡ result h → Encodes p (h .primary) → PartNoRepeat tag p) → AnswersAlike SameRecord (byHeld tag a) (byHeld tag b)
 same-record tag (same-refusal n) part = same-refusal n
 same-record tag (both-read {a = h} {b = g} s) part =
-    let rows : lowest (tellingRows tag (h .told)) ≡ lowest (tellingRows tag (g .told)) = ap (λ (t : Telling). lowest (tellingRows tag t)) (s .told) in
-    rw rows (by (lowest (tellingRows tag (g .told))) refl)
+    let rows : lowest (toldRows tag (h .told)) ≡ lowest (toldRows tag (g .told)) = ap (λ (t : Telling). lowest (toldRows tag t)) (s .told) in
+    rw rows (by (lowest (toldRows tag (g .told))) refl)
   where
     with-contents : (c d : Answer Contents) → c ≡ d → AnswersAlike SameRecord (withHeld h c) (withHeld g d)
     with-contents c d i = rw (← i) (each c)
@@ -113,7 +113,7 @@ same-record tag (both-read {a = h} {b = g} s) part =
         each (result c) = both-read (record { held = s; contents = refl })
         each (refused n) = same-refusal n
 
-    by : (o : Option ℕ) → lowest (tellingRows tag (g .told)) ≡ o
+    by : (o : Option ℕ) → lowest (toldRows tag (g .told)) ≡ o
         → AnswersAlike SameRecord (unless o (withHeld h (contents tag (h .primary)))) (unless o (withHeld g (contents tag (g .primary))))
     by (some n) i = same-refusal n
     by none i = with-contents (contents tag (h .primary)) (contents tag (g .primary))

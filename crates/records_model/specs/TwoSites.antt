@@ -7,12 +7,13 @@ use Rattle.msgpack_model.specs.Values.{Value}
 use Rattle.msgpack_model.specs.Encoding.{Encodes}
 use Rattle.value.specs.Reading.{reading}
 use Rattle.primary.specs.Parts as bytes
+use Rattle.primary.specs.Parts.{versionKeys, versionDeleteKeys}
 use Rattle.records.specs.Record.{readRecord}
 use Rattle.records_model.specs.Alike.{Alike}
 use Rattle.records_model.specs.HeaderReads.{answerIn, value-reads}
 use Rattle.records_model.specs.Primary.{block-reads, version-reads, version-delete-reads}
 use Rattle.records_model.specs.Record.{recordIn, record-reads}
-use Rattle.records_model.specs.NoRepeats.{NoRepeat, versionKeys, versionDeleteKeys, HeaderNoRepeat, BlockNoRepeat, NoRepeats}
+use Rattle.records_model.specs.NoRepeats.{NoRepeat, HeaderNoRepeat, BlockNoRepeat, NoRepeats}
 use Rattle.records_model.specs.AnswersAlike.{AnswersAlike, SameHeld, SameRecord}
 use Rattle.records_model.specs.SameReading.{same-block, same-version, same-version-delete}
 use Rattle.records_model.specs.SameRecords.{same-held, same-records}

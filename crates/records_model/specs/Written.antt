@@ -14,12 +14,13 @@ use Rattle.msgpack_model.specs.Encoding.{Encodes}
 use Rattle.identifier.specs.Ulid.{isUlid}
 use Rattle.identifier.specs.Identity.{Identity, isValid, identityOf}
 use Rattle.identifier.specs.Composite.{compositeText, text-reads}
-use Rattle.value.specs.Header.{primaryKey, secondaryKey, lengthKey}
-use Rattle.primary.specs.Parts.{bucketKey, objectKey, ulidKey, identifierKey, deleteIdKey, ulidOf}
-use Rattle.records.specs.Record.{blockTag, versionDeleteTag, isKnown, Contents, versionDelete as deleteKind, block as blockKind, contents, readRecord}
-use Rattle.records_model.specs.Header.{tellingAlone, tellingWith, alone, withMap, withList, telling, header, Held, holds}
-use Rattle.records_model.specs.Primary.{textsUnder, block, versionDelete}
-use Rattle.records_model.specs.Record.{contentsOf, contents-reads, recordIn, tellingRows, byHeld, recordHolds, record-reads}
+use Rattle.value.specs.Fields.{naturalUnder, isThere}
+use Rattle.value.specs.Header.{primaryKey, secondaryKey, lengthKey, tellingAlone, tellingWith, alone, withMap, withList, telling}
+use Rattle.primary.specs.Parts.{bucketKey, objectKey, ulidKey, identifierKey, deleteIdKey, textUnder, textsUnder, ulidOf, shapeAt, shapeUnder}
+use Rattle.records.specs.Record.{blockTag, versionDeleteTag, isKnown, Contents, versionDelete as deleteKind, block as blockKind, contents, toldRows, readRecord}
+use Rattle.records_model.specs.Header.{header, Held, holds}
+use Rattle.records_model.specs.Primary.{block, versionDelete}
+use Rattle.records_model.specs.Record.{contentsOf, contents-reads, recordIn, byHeld, recordHolds, record-reads}
 
 -- ---- the values
 
@@ -55,21 +56,21 @@ abbrev pub heldWith : List ℕ → List ℕ → Held
 heldWith part secondary = record { primary = part; secondary = secondary; told = tellingWith (tellingAlone 0 0 false) (length secondary) 0 false }
 
 pub plain-holds : (limit : ℕ) (part : List ℕ) → holds limit (plainHeader part) [] ≡ result (heldAlone part)
-unfolding holds header telling alone sameBytes
+unfolding holds header telling alone naturalUnder isThere sameBytes
 plain-holds limit part = refl
 
 pub block-holds : (limit : ℕ) (part secondary : List ℕ) → length secondary ≤ limit
     → holds limit (blockHeader (length secondary) part) secondary ≡ result (heldWith part secondary)
-unfolding holds header telling alone withList withMap sameBytes
+unfolding holds header telling alone withList withMap naturalUnder isThere sameBytes
 block-holds limit part secondary h = rw (le-leb (length secondary) limit h, eq-eqb (length secondary) (length secondary) refl)
 
 pub block-part : (i : Identity) → isValid i ≡ true → block (blockPart i) ≡ result i
-unfolding block sameBytes
+unfolding block shapeUnder shapeAt sameBytes
 block-part i v = rw (text-reads i v)
 
 pub delete-part : (i : Identity) (id : List ℕ) → isValid i ≡ true → isUlid id ≡ true
     → versionDelete (deletePart i id) ≡ result (record { identifier = i; deleteId = id })
-unfolding versionDelete textsUnder sameBytes identityOf ulidOf
+unfolding versionDelete textUnder textsUnder sameBytes identityOf ulidOf
 delete-part i id v u = rw (v, u)
 
 -- ---- any encodings of them read back
@@ -78,7 +79,7 @@ module _ (limit : ℕ) {part e : List ℕ} where
   -- a primary part that reads, under the header {e}
   pub plain-reads-back : (tag : ℕ) (c : Contents) → isKnown tag ≡ true → contents tag part ≡ result c → Encodes (plainHeader part) e
       → recordIn e (readRecord limit tag e) ≡ result (record { held = heldAlone part; contents = c })
-  unfolding recordHolds lowest tellingRows
+  unfolding recordHolds lowest toldRows
   plain-reads-back tag c known reads x =
       let here : recordIn e (readRecord limit tag e) ≡ byHeld tag (holds limit (plainHeader part) []) = rw append-nil at (record-reads limit tag x []) in
       here ∙ rw (plain-holds limit part, known, reads)
@@ -87,7 +88,7 @@ module _ (limit : ℕ) {part e : List ℕ} where
       → Encodes (blockPart i) part → Encodes (blockHeader (length secondary) part) e
       → recordIn (e ++ secondary) (readRecord limit blockTag (e ++ secondary))
       ≡ result (record { held = heldWith part secondary; contents = record { identifier = i; kind = blockKind } })
-  unfolding recordHolds lowest tellingRows isKnown contentsOf
+  unfolding recordHolds lowest toldRows isKnown contentsOf
   block-reads-back i secondary v l x y =
       record-reads limit blockTag y secondary ∙ rw (block-holds limit part secondary l, contents-reads blockTag x, block-part i v)
 

@@ -15,18 +15,19 @@ pub part-length : (s : List ℕ) (at n : ℕ) → at + n ≤ length s → length
 part-length s at n within = length-take-le n (drop at s) (omega (arith, length-drop at s))
 
 -- a part that lies in the front is a part of the whole
-pub part-of-front : (s : List ℕ) (n start len : ℕ) → n ≤ length s → start + len ≤ n
-    → take len (drop start (take n s)) ≡ take len (drop start s)
-part-of-front s n start len w h =
-    let l : length (take n s) ≡ n = length-take-le n s w in
+in-front : (s : List ℕ) (n start len : ℕ) → start + len ≤ length (take n s) → take len (drop start (take n s)) ≡ take len (drop start s)
+in-front s n start len h =
     let p : start ≤ length (take n s) = omega arith in
     let q : len ≤ length (drop start (take n s)) = omega (arith, length-drop start (take n s)) in
     let whole : take n s ++ drop n s ≡ s = take-append-drop n s in
     sym (take-append-le len (drop start (take n s)) (drop n s) q)
     ∙ ap (take len) (sym (drop-append-le start (take n s) (drop n s) p) ∙ ap (drop start) whole)
 
+pub part-of-front : (s : List ℕ) (n start len : ℕ) → n ≤ length s → start + len ≤ n
+    → take len (drop start (take n s)) ≡ take len (drop start s)
+part-of-front s n start len w h = in-front s n start len (omega (arith, length-take-le n s w))
+
 -- a part of a part
-pub part-of-part : (s : List ℕ) (at n : ℕ) → at + n ≤ length s → (start len : ℕ) → start + len ≤ n
+pub part-of-part : (s : List ℕ) (at n start len : ℕ) → start + len ≤ length (take n (drop at s))
     → take len (drop start (take n (drop at s))) ≡ take len (drop (at + start) s)
-part-of-part s at n within start len h =
-    part-of-front (drop at s) n start len (omega (arith, length-drop at s)) h ∙ ap (take len) (drop-drop start at s)
+part-of-part s at n start len h = in-front (drop at s) n start len h ∙ ap (take len) (drop-drop start at s)

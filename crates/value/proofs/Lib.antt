@@ -1,2 +1,3 @@
 mod Lookups
 mod Keys
+mod Headers

@@ -1,11 +1,12 @@
 -- What stands under a text key of a map: the last value of the key counts, and earlier ones are only passed over, whatever their type.
 use Prim.Native.Nat.{ℕ, _+_}
-use mathlib.Core.Bool.{Bool, true, false}
+use mathlib.Core.Bool.{Bool}
 use mathlib.Core.List.{List}
 use mathlib.Core.Option.{Option, none, some}
 use lib.ListN.{drop}
 use Rattle.msgpack.specs.Readers.{Int, plus, minus, readInteger, Part, part, readBinary}
-use Rattle.msgpack.specs.Lookup.{ValuePlace, found, missing, broken, lastValue, under}
+use Rattle.msgpack.specs.Lookup.{lastValue, atPlace, isFound}
+use Rattle.msgpack.specs.Views.{View}
 
 -- ---- an integer of at least 0
 
@@ -14,11 +15,18 @@ atLeastZero (some (plus n)) = some n
 atLeastZero (some (minus n)) = none
 atLeastZero none = none
 
+-- at the front of a list
 unfoldable pub readNatural : List ℕ → Option ℕ
 readNatural s = atLeastZero (readInteger s)
 
-unfoldable pub naturalUnder : List ℕ → List ℕ → Option ℕ → Option ℕ
-naturalUnder key m absent = under key m absent (λ p. readNatural (drop p m))
+module _ {I : Type 0} (view : View I) where
+  unfoldable pub naturalUnder : List ℕ → I → Option ℕ → Option ℕ
+  naturalUnder key m absent = atPlace absent (λ i. atLeastZero (view .integer i)) (view .under key m)
+
+  -- ---- any item
+
+  unfoldable pub isThere : List ℕ → I → Bool
+  isThere key m = isFound (view .under key m)
 
 -- ---- bytes
 
@@ -29,15 +37,4 @@ shifted p none = none
 
 -- where the bytes under a key that must be there have their content
 unfoldable pub bytesUnder : List ℕ → List ℕ → Option Part
-bytesUnder key m = under key m none (λ p. shifted p (readBinary (drop p m)))
-
--- ---- any item
-
-abbrev pub isFound : ValuePlace → Bool
-isFound (found p) = true
-isFound missing = false
-isFound broken = false
-
--- a key that is there counts as there whatever its value, nil included
-unfoldable pub isThere : List ℕ → List ℕ → Bool
-isThere key m = isFound (lastValue key m)
+bytesUnder key m = atPlace none (λ p. shifted p (readBinary (drop p m))) (lastValue key m)

@@ -1,4 +1,5 @@
 pub mod Fields
 pub mod Header
+pub mod HeadersAlike
 pub mod Reading
 pub mod ReadingLaws

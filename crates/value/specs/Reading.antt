@@ -8,7 +8,7 @@ use lib.Dec.{eqb}
 use lib.ListN.{length, take, drop}
 use Rattle.refusals.specs.Answers.{Answer, refused, result}
 use Rattle.msgpack.specs.Items.{Passage, whole, cut, tooDeep, passOver}
-use Rattle.value.specs.Header.{part, header}
+use Rattle.value.specs.Header.{coding, part, header}
 use Rattle.value.specs.declared.Part.{Part}
 use Rattle.value.specs.declared.Told.{Told}
 use Rattle.value.specs.declared.Fault.{Fault}
@@ -46,7 +46,7 @@ answerOf (reading-answer.Refused f) = refused (numberOf f)
 -- ---- the parts of a value
 
 abbrev pub emptyPart : Part
-emptyPart = part 0 0 0 false
+emptyPart = part 0 0 (coding 0 false)
 
 -- of a refused value: the empty part
 abbrev pub primaryPart : Answer Told → Part

@@ -6,7 +6,7 @@ use mathlib.Core.Option.{Option, none, some}
 use mathlib.Core.Path.{_≡_, refl, sym, ap, _∙_}
 use native.Mathlib.Omega.{arith}
 use borrow.Author.Tests.{eq-eqb, eqb-true}
-use lib.Dec.{leb, eqb}
+use lib.Dec.{eqb}
 use lib.ListN.{length, take, drop, length-drop}
 use lib.Seq.{take-all, length-take-le}
 use Rattle.slices.specs.Logic.{absurd-numbers}
@@ -14,40 +14,23 @@ use Rattle.slices.specs.Lists.{part-of-front}
 use Rattle.refusals.specs.Answers.{result, refused}
 use Rattle.msgpack.specs.Formats.{binaryKind}
 use Rattle.msgpack.specs.Items.{Passage, whole, cut, tooDeep, passOver, depthAllowed}
-use Rattle.msgpack.specs.Readers.{Counted, readArray, readBinary}
+use Rattle.msgpack.specs.Readers.{readBinary}
 use Rattle.msgpack.specs.Readers as msgpack
-use Rattle.msgpack.specs.Lookup.{ValuePlace, found, missing, broken, lastValue, atPlace, under, ifThere}
+use Rattle.msgpack.specs.Lookup.{ValuePlace, found, missing, broken, lastValue, atPlace, over}
+use Rattle.msgpack.specs.Views.{byteView}
 use Rattle.msgpack.specs.PassingLaws.{bounded}
 use Rattle.msgpack.specs.ReaderLaws.{part-inside}
 use Rattle.msgpack.specs.LookupLaws.{value-inside}
-use Rattle.value.specs.Fields.{naturalUnder, shifted, bytesUnder}
-use Rattle.value.specs.Header.{primaryKey, secondaryKey, lengthKey, compressionKey, versionKey, onlyIf, alone, withMap, withItems, withList, header}
+use Rattle.value.specs.Fields.{shifted, bytesUnder}
+use Rattle.value.specs.Header.{primaryKey, Telling, telling, headerBy, toldAt, toldIn, header}
 use Rattle.value.specs.Reading.{filled, byItem, reading}
 use Rattle.value.specs.declared.Told.{Told}
-
--- ---- what an answer that is there came from
-
-record Next {A B : Type 0} (a : Option A) (next : A → Option B) (b : B) : Type 0 where
-  first : A
-  is : a ≡ some first
-  then-some : next first ≡ some b
-
-if-there : {A B : Type 0} (a : Option A) (next : A → Option B) (b : B) → ifThere a next ≡ some b → Next a next b
-if-there (some x) next b e = record { first = x; is = refl; then-some = e }
-if-there none next b e = absurd-numbers (cc)
-
-only-if : {A : Type 0} (t : Bool) (a : Option A) (b : A) → onlyIf t a ≡ some b → a ≡ some b
-only-if true a b e = e
-only-if false a b e = absurd-numbers (cc)
-
-some-injective : {A : Type 0} {a b : A} → some a ≡ some b → a ≡ b
-some-injective e = cc
 
 -- ---- the header
 
 -- the bytes of a key lie within the map
 bytes-inside : (key m : List ℕ) (p : msgpack.Part) → bytesUnder key m ≡ some p → p .start + p .size ≤ length m
-unfolding bytesUnder under
+unfolding bytesUnder
 bytes-inside key m p e = by (lastValue key m) refl e
   where
     at : (k : ℕ) (r : Option msgpack.Part) → k ≤ length m → readBinary (drop k m) ≡ r → shifted k r ≡ some p → p .start + p .size ≤ length m
@@ -61,50 +44,19 @@ bytes-inside key m p e = by (lastValue key m) refl e
     by missing q f = absurd-numbers (cc)
     by broken q f = absurd-numbers (cc)
 
--- t is told by the header m, by itself or together with a list
+-- t is told by the header m
 record Placed (m : List ℕ) (t : Told) : Type 0 where
   primary-is : bytesUnder primaryKey m ≡ some (msgpack.part (t .primary .start) (t .primary .len))
   after-header : t .secondary .start ≡ length m
 
-alone-placed : (m : List ℕ) (t : Told) → alone m ≡ some t → Placed m t
-unfolding alone
-alone-placed m t e =
-    let b = if-there (bytesUnder primaryKey m) _ t e in
-    let c = if-there (naturalUnder compressionKey m (some 0)) _ t (b .then-some) in
-    let v = if-there (naturalUnder versionKey m (some 0)) _ t (c .then-some) in
-    rw (← some-injective (v .then-some)) (record { primary-is = b .is; after-header = refl })
-
-module _ (limit : ℕ) (m : List ℕ) (t : Told) (placed : Placed m t) (u : Told) where
-  map-placed : (s : List ℕ) → withMap limit t s ≡ some u → Placed m u
-  unfolding withMap
-  map-placed s e =
-      let l = if-there (naturalUnder lengthKey s none) _ u e in
-      let c = if-there (naturalUnder compressionKey s (some (t .primary .compression))) _ u (only-if (leb (l .first) limit) _ u (l .then-some)) in
-      rw (← some-injective (c .then-some)) (record { primary-is = placed .primary-is; after-header = placed .after-header })
-
-  list-placed : (s : List ℕ) → withList limit t s ≡ some u → Placed m u
-  unfolding withList
-  list-placed s e = by (readArray s) e
-    where
-      by : (r : Option Counted) → withItems limit t s r ≡ some u → Placed m u
-      by (some items) q = count (eqb (items .count) 0) (eqb (items .count) 1) q
-        where
-          count : (zero one : Bool) → cond zero (some t) (cond one (withMap limit t (drop (items .size) s)) none) ≡ some u → Placed m u
-          count true one f = let is : t ≡ u = cc in rw (← is) placed
-          count false true f = map-placed (drop (items .size) s) f
-          count false false f = absurd-numbers (cc)
-      by none q = absurd-numbers (cc)
-
 header-placed : (limit : ℕ) (m : List ℕ) (t : Told) → header limit m ≡ some t → Placed m t
-unfolding header under
-header-placed limit m t e =
-    let a = if-there (alone m) _ t e in
-    by (a .first) (alone-placed m (a .first) (a .is)) (lastValue secondaryKey m) (a .then-some)
+unfolding header
+header-placed limit m t e = by (bytesUnder primaryKey m) refl (telling byteView limit m) e
   where
-    by : (u : Told) → Placed m u → (r : ValuePlace) → atPlace (some u) (λ p. withList limit u (drop p m)) r ≡ some t → Placed m t
-    by u p (found k) q = list-placed limit m u p t (drop k m) q
-    by u p missing q = let is : u ≡ t = cc in rw (← is) p
-    by u p broken q = absurd-numbers (cc)
+    by : (b : Option msgpack.Part) → bytesUnder primaryKey m ≡ b → (u : Option Telling) → over (toldIn m) (headerBy b u) ≡ some t → Placed m t
+    by (some b) q (some u) f = let is : toldAt (b .start) (b .size) (length m) u ≡ t = cc in rw (← is) (record { primary-is = q; after-header = refl })
+    by (some b) q none f = absurd-numbers (cc)
+    by none q u f = absurd-numbers (cc)
 
 -- the primary part is what stands under `e`
 pub primary-is : (limit : ℕ) (m : List ℕ) (t : Told) → header limit m ≡ some t

@@ -9,8 +9,9 @@ ghost use Rattle.msgpack.specs.Items.{WholeItem};
 ghost use Rattle.msgpack.specs.Lookup.{atPlace};
 ghost use Rattle.msgpack.specs.Pairs.{placeTold};
 ghost use Rattle.msgpack.specs.Readers.{partOf, readBinary};
+ghost use Rattle.msgpack.specs.Views.{byteView};
 ghost use Rattle.value.specs.Fields.{readNatural, shifted};
-ghost use Rattle.value.specs.Header.{alone, withMap, withList, header, toldOf, HeaderAt};
+ghost use Rattle.value.specs.Header.{withMap, withList, header, tellingOf, toldOf, headerAlone, toldWith, HeaderAt};
 ghost use Rattle.value.specs.Reading.{filled, reading, numberOf, answerOf, primaryPart, secondaryPart, IsPart};
 use endian::Number;
 use msgpack::Content;
@@ -141,7 +142,7 @@ enum Described {
 // What the header tells where it lists no secondary part.
 fn alone(map: &[u8], places: HeaderPlaces) -> Described
     requires { ⌜ HeaderAt (now map) places ⌝ }
-    ensures { λ r. ⌜ toldOf r ≡ alone (now (map .entry)) ⌝ }
+    ensures { λ r. ⌜ toldOf r ≡ headerAlone (now (map .entry)) ⌝ }
 {
     let Content::Part { start, len } = bytes_under(map, places.e) else {
         return Described::Not;
@@ -174,7 +175,7 @@ fn alone(map: &[u8], places: HeaderPlaces) -> Described
 // The same with the secondary part of which the map in `s` tells.
 fn with_map(t: Told, map: &[u8]) -> Described
     requires { ⌜ WholeItem (now map) ⌝ }
-    ensures { λ r. ⌜ toldOf r ≡ withMap packLimit t (now (map .entry)) ⌝ }
+    ensures { λ r. ⌜ toldOf r ≡ toldWith t (withMap byteView packLimit (tellingOf t) (now (map .entry))) ⌝ }
 {
     let primary = t.primary;
     let part = t.secondary;
@@ -211,7 +212,7 @@ fn with_map(t: Told, map: &[u8]) -> Described
 // The same with the list at the front of s, which is of no item or of one map.
 fn with_list(t: Told, s: &[u8]) -> Described
     requires { ⌜ WholeItem (now s) ⌝ }
-    ensures { λ r. ⌜ toldOf r ≡ withList packLimit t (now (s .entry)) ⌝ }
+    ensures { λ r. ⌜ toldOf r ≡ toldWith t (withList byteView packLimit (tellingOf t) (now (s .entry))) ⌝ }
 {
     match msgpack::read_array(s) {
         Items::Counted { count, size } => {

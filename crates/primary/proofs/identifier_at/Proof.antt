@@ -3,7 +3,7 @@ use borrow.Author.Needs.{needs}
 use mathlib.Core.Option.{none}
 use mathlib.Core.Path.{_≡_, refl, sym, ap, _∙_}
 use lib.ListN.{drop}
-use Rattle.primary.specs.Parts.{textAt}
+use Rattle.msgpack.specs.Views.{textAt}
 use Rattle.primary.specs.Answers.{textOf, textsOf}
 use Rattle.primary.proofs.Readings.{shape-is, no-block}
 use Rattle.primary.proofs.identifier_at.Statement.{statement}

@@ -9,6 +9,7 @@ use lib.ListN.{getD}
 use Rattle.slices.specs.Places.{partAt, Inside}
 use Rattle.msgpack.specs.Lookup.{lastValue}
 use Rattle.msgpack.specs.Pairs.{placeTold}
+use Rattle.msgpack.specs.Views.{byteView}
 use Rattle.primary.specs.Parts.{versionDelete, fills, deleteIdKey, textUnder, textsUnder}
 use Rattle.primary.specs.Answers.{textOf, textsOf, textsIn, AllInside}
 use Rattle.primary.proofs.Places.{text-told, told-within}
@@ -56,7 +57,7 @@ returns-3 c =
 
 -- its texts, and where they stand
 texts : (c : tie.After-known-told) → some (textsIn (c .before .before .before .before .before .before .before .before .before .before .before .args .part .now) (c .before .t .given .0 .0))
-    ≡ textsUnder (c .before .before .before .before .before .before .before .before .before .before .before .args .part .now)
+    ≡ textsUnder byteView (c .before .before .before .before .before .before .before .before .before .before .before .args .part .now)
 texts c =
     sym (ap (textsOf (c .before .before .before .before .before .before .before .before .before .before .before .args .part .now)) (c .before .t .given .1))
     ∙ c .before .before .before .texts-under .ensures .0
@@ -91,7 +92,7 @@ enum-told-2 c = search needs
 -- the text that was read there
 text-read : (c : tie.After-text-under)
     → textOf (c .before .before .before .before .before .before .before .before .before .before .before .before .args .part .now) (c .text-under .result)
-    ≡ textUnder deleteIdKey (c .before .before .before .before .before .before .before .before .before .before .before .before .args .part .now)
+    ≡ textUnder byteView deleteIdKey (c .before .before .before .before .before .before .before .before .before .before .before .before .args .part .now)
 text-read c =
     c .text-under .ensures .0 ∙ text-told _ _ (getD (c .before .before .before .before .before .before .before .before .before .before .read-pairs .result .places) 3 0) (place (c .before))
 
@@ -106,7 +107,7 @@ returns-4 c =
 -- the delete identifier, and where it stands
 delete-text : (c : tie.After-known-told2)
     → some (partAt (c .before .before .before .before .before .before .before .before .before .before .before .before .before .before .before .args .part .now) (c .before .id .given .0 .0))
-    ≡ textUnder deleteIdKey (c .before .before .before .before .before .before .before .before .before .before .before .before .before .before .before .args .part .now)
+    ≡ textUnder byteView deleteIdKey (c .before .before .before .before .before .before .before .before .before .before .before .before .before .before .before .args .part .now)
 delete-text c =
     sym (ap (textOf (c .before .before .before .before .before .before .before .before .before .before .before .before .before .before .before .args .part .now)) (c .before .id .given .1))
     ∙ text-read (c .before .before .before)

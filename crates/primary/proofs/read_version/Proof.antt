@@ -10,6 +10,7 @@ use Rattle.msgpack.specs.Lookup.{lastValue}
 use Rattle.msgpack.specs.Pairs.{placeTold}
 use Rattle.msgpack.specs.PairLaws.{told-inside}
 use Rattle.msgpack.specs.Readers.{booleanOf}
+use Rattle.msgpack.specs.Views.{byteView}
 use Rattle.primary.specs.Parts.{version, fills, textsUnder, deletedKey, deletedUnder}
 use Rattle.primary.specs.Answers.{textsOf, textsIn, AllInside}
 use Rattle.primary.proofs.Readings.{version-inside, no-version, no-texts-are, flag-told, fills-is, fills-whole, not-filled, version-is, version-tested}
@@ -56,7 +57,7 @@ returns-3 c =
 
 -- its texts, and where they stand
 texts : (c : tie.After-known-told) → some (textsIn (c .before .before .before .before .before .before .before .before .before .before .before .args .part .now) (c .before .t .given .0 .0))
-    ≡ textsUnder (c .before .before .before .before .before .before .before .before .before .before .before .args .part .now)
+    ≡ textsUnder byteView (c .before .before .before .before .before .before .before .before .before .before .before .args .part .now)
 texts c =
     sym (ap (textsOf (c .before .before .before .before .before .before .before .before .before .before .before .args .part .now)) (c .before .t .given .1))
     ∙ c .before .before .before .texts-under .ensures .0
@@ -88,7 +89,7 @@ enum-told-2 c = search needs
 
 -- the flag that was read
 flag-read : (c : tie.After-deleted-under)
-    → booleanOf (c .deleted-under .result) ≡ deletedUnder (c .before .before .before .before .before .before .before .before .before .before .before .before .args .part .now)
+    → booleanOf (c .deleted-under .result) ≡ deletedUnder byteView (c .before .before .before .before .before .before .before .before .before .before .before .before .args .part .now)
 flag-read c =
     c .deleted-under .ensures ∙ flag-told _ (getD (c .before .before .before .before .before .before .before .before .before .before .read-pairs .result .places) 3 0) (place (c .before))
 
@@ -98,7 +99,7 @@ returns-4 c =
     (version-is _ (whole-at-texts t) _ none (texts t) (sym (ap booleanOf (c .enum-told2 .given .1)) ∙ flag-read (c .before .before)), no-version _ _)
 
 flag : (c : tie.After-known-told2)
-    → some (c .before .deleted .given .0 .0) ≡ deletedUnder (c .before .before .before .before .before .before .before .before .before .before .before .before .before .before .before .args .part .now)
+    → some (c .before .deleted .given .0 .0) ≡ deletedUnder byteView (c .before .before .before .before .before .before .before .before .before .before .before .before .before .before .before .args .part .now)
 flag c = sym (ap booleanOf (c .before .deleted .given .1)) ∙ flag-read (c .before .before .before)
 
 is-valid-requires : tie.Need-is-valid-requires

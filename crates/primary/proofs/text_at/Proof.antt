@@ -7,7 +7,7 @@ use native.Mathlib.Omega.{arith}
 use lib.ListN.{take, drop}
 use Rattle.slices.specs.Places.{Inside}
 use Rattle.msgpack.specs.Readers.{partOf}
-use Rattle.primary.specs.Parts.{textAt}
+use Rattle.msgpack.specs.Views.{textAt}
 use Rattle.primary.proofs.Places.{text-inside, no-text, text-found, text-ends, text-missing}
 use Rattle.primary.proofs.text_at.Statement.{statement}
 use Rattle.primary.proofs.text_at.Tie as tie

@@ -3,7 +3,7 @@ use borrow.Author.Needs.{needs}
 use mathlib.Core.Path.{sym, ap, _∙_}
 use lib.Seq.{drop-drop}
 use Rattle.msgpack.specs.PairLaws.{told-found}
-use Rattle.primary.specs.Parts.{textAt}
+use Rattle.msgpack.specs.Views.{textAt}
 use Rattle.primary.proofs.Places.{no-text}
 use Rattle.primary.proofs.text_under.Statement.{statement}
 use Rattle.primary.proofs.text_under.Tie as tie

@@ -4,6 +4,7 @@ use mathlib.Core.Option.{none, some}
 use mathlib.Core.Path.{_≡_, refl, sym, ap, _∙_}
 use lib.ListN.{getD, drop}
 use Rattle.slices.specs.Places.{partAt, Inside}
+use Rattle.msgpack.specs.Views.{byteView}
 use Rattle.primary.specs.Parts.{ulidKey, bucketKey, objectKey, textUnder}
 use Rattle.primary.specs.Answers.{textOf}
 use Rattle.primary.proofs.Places.{texts-inside, no-texts, text-told, told-within}
@@ -13,17 +14,17 @@ use Rattle.primary.proofs.texts_under.Tie as tie
 
 -- the text that was read under each key
 ulid-read : (c : tie.After-text-under) → textOf (c .before .before .args .part .now) (c .text-under .result)
-    ≡ textUnder ulidKey (drop (c .before .before .args .at) (c .before .before .args .part .now))
+    ≡ textUnder byteView ulidKey (drop (c .before .before .args .at) (c .before .before .args .part .now))
 ulid-read c = let a = c .before .before in c .text-under .ensures .0 ∙ text-told _ _ (getD (a .args .t3) 0 0) (a .pre .1 .ulid)
 
 bucket-read : (c : tie.After-text-under2) → textOf (c .before .before .before .before .before .before .args .part .now) (c .text-under2 .result)
-    ≡ textUnder bucketKey (drop (c .before .before .before .before .before .before .args .at) (c .before .before .before .before .before .before .args .part .now))
+    ≡ textUnder byteView bucketKey (drop (c .before .before .before .before .before .before .args .at) (c .before .before .before .before .before .before .args .part .now))
 bucket-read c = let a = c .before .before .before .before .before .before in
     c .text-under2 .ensures .0 ∙ text-told _ _ (getD (a .args .t3) 1 0) (a .pre .1 .bucket)
 
 object-read : (c : tie.After-text-under3)
     → textOf (c .before .before .before .before .before .before .before .before .before .before .args .part .now) (c .text-under3 .result)
-    ≡ textUnder objectKey (drop (c .before .before .before .before .before .before .before .before .before .before .args .at)
+    ≡ textUnder byteView objectKey (drop (c .before .before .before .before .before .before .before .before .before .before .args .at)
     (c .before .before .before .before .before .before .before .before .before .before .args .part .now))
 object-read c = let a = c .before .before .before .before .before .before .before .before .before .before in
     c .text-under3 .ensures .0 ∙ text-told _ _ (getD (a .args .t3) 2 0) (a .pre .1 .object)
@@ -46,7 +47,7 @@ returns c = (texts-are _ none _ _ (sym (ap (textOf (c .before .before .before .b
 
 -- the text `v`, and where it stands
 ulid : (c : tie.After-known-told) → some (partAt (c .before .before .before .before .before .args .part .now) (c .before .ulid .given .0 .0))
-    ≡ textUnder ulidKey (drop (c .before .before .before .before .before .args .at) (c .before .before .before .before .before .args .part .now))
+    ≡ textUnder byteView ulidKey (drop (c .before .before .before .before .before .args .at) (c .before .before .before .before .before .args .part .now))
 ulid c = sym (ap (textOf (c .before .before .before .before .before .args .part .now)) (c .before .ulid .given .1)) ∙ ulid-read (c .before .before .before)
 
 ulid-within : (c : tie.After-known-told) → Inside (c .before .before .before .before .before .args .part .now) (c .before .ulid .given .0 .0)
@@ -72,7 +73,7 @@ returns-2 c =
 
 -- the text `b`
 bucket : (c : tie.After-known-told2) → some (partAt (c .before .before .before .before .before .before .before .before .before .args .part .now) (c .before .bucket .given .0 .0))
-    ≡ textUnder bucketKey (drop (c .before .before .before .before .before .before .before .before .before .args .at)
+    ≡ textUnder byteView bucketKey (drop (c .before .before .before .before .before .before .before .before .before .args .at)
     (c .before .before .before .before .before .before .before .before .before .args .part .now))
 bucket c =
     sym (ap (textOf (c .before .before .before .before .before .before .before .before .before .args .part .now)) (c .before .bucket .given .1))
@@ -103,7 +104,7 @@ returns-3 c =
 -- the text `o`
 object : (c : tie.After-known-told3)
     → some (partAt (c .before .before .before .before .before .before .before .before .before .before .before .before .before .args .part .now) (c .before .object .given .0 .0))
-    ≡ textUnder objectKey (drop (c .before .before .before .before .before .before .before .before .before .before .before .before .before .args .at)
+    ≡ textUnder byteView objectKey (drop (c .before .before .before .before .before .before .before .before .before .before .before .before .before .args .at)
     (c .before .before .before .before .before .before .before .before .before .before .before .before .before .args .part .now))
 object c =
     sym (ap (textOf (c .before .before .before .before .before .before .before .before .before .before .before .before .before .args .part .now)) (c .before .object .given .1))

@@ -1,7 +1,10 @@
--- `records::with_part` meets its contract: the part that is lent is the primary part.
+-- `records::with_part` meets its contract: the part that is lent is the primary part, and what it tells is shifted by its start.
 use borrow.Author.Needs.{needs}
+use mathlib.Core.Path.{ap}
+use native.Mathlib.Omega.{arith}
+use Rattle.records.specs.Answers.{shiftKind}
 use Rattle.records.proofs.Places.{record-inside, refused-inside}
-use Rattle.records.proofs.Readings.{record-read, contents-inside, part-refused}
+use Rattle.records.proofs.Readings.{part-refused, record-read, record-places}
 use Rattle.records.proofs.with_part.Statement.{statement}
 use Rattle.records.proofs.with_part.Tie as tie
 
@@ -20,21 +23,36 @@ part-contents-end c = search needs
 contents-requires : tie.Need-contents-requires
 contents-requires c κs = search needs
 
-enum-known-identifier : tie.Need-enum-known-identifier
-enum-known-identifier c = search needs
+enum-known-t : tie.Need-enum-known-t
+enum-known-t c = search needs
+
+texts-from-requires : tie.Need-texts-from-requires
+texts-from-requires c κs =
+    let b = c .before .before .before .before .before .before .before in
+    let w = record-places (b .args .pack .now) (b .args .told) (b .args .tag) _ (c .before .before .before .contents .ensures) _ _ (c .before .t .given .1) (b .pre) .contents in
+    (omega (arith, w .ulid .before), omega (arith, w .bucket .before), omega (arith, w .object .before))
+
+kind-from-requires : tie.Need-kind-from-requires
+kind-from-requires c κs =
+    let k = c .before in
+    let b = k .before .before .before .before .before .before .before in
+    let w = record-places (b .args .pack .now) (b .args .told) (b .args .tag) _ (k .before .before .before .contents .ensures) _ _ (k .before .t .given .1) (b .pre) .contents in
+    record { delete-id = λ id e. omega (arith, w .delete-id _ (ap (shiftKind (b .args .told .primary .start)) e) .before) }
 
 enum-known-f : tie.Need-enum-known-f
 enum-known-f c = search needs
 
 returns : tie.Need-returns
 returns c =
-    let b = c .before .before .before .before .before .before .before in
-    let answer = c .before .before .before .contents .ensures in
-    let given = c .before .identifier .given .1 in
-    (record-read (b .args .value .now) (b .args .told) (b .args .tag) _ (answer .0) _ _ given, record-inside _ _ (contents-inside (b .args .value .now) (b .args .told) _ (answer .1) _ _ given))
+    let k = c .before .before in
+    let b = k .before .before .before .before .before .before .before in
+    let answer = k .before .before .before .contents .ensures in
+    let given = k .before .t .given .1 in
+    rw (c .kind-from .ensures, c .before .texts-from .ensures)
+    (record-read (b .args .pack .now) (b .args .told) (b .args .tag) _ answer _ _ given, record-inside _ _ (record-places (b .args .pack .now) (b .args .told) (b .args .tag) _ answer _ _ given (b .pre)))
 
 returns-2 : tie.Need-returns-2
-returns-2 c = let b = c .before .before .before .before .before .before .before in (part-refused (b .args .value .now) (b .args .told) (b .args .tag) _ (c .before .before .before .contents .ensures .0) _ (c .before .f .given .1), refused-inside _ _)
+returns-2 c = let b = c .before .before .before .before .before .before .before in (part-refused (b .args .pack .now) (b .args .told) (b .args .tag) _ (c .before .before .before .contents .ensures) _ (c .before .f .given .1), refused-inside _ _)
 
 pub with-part-spec : {M : Type 1} → statement M
 with-part-spec =
@@ -45,7 +63,9 @@ with-part-spec =
     part-contents-start
     part-contents-end
     contents-requires
-    enum-known-identifier
+    enum-known-t
+    texts-from-requires
+    kind-from-requires
     enum-known-f
     returns
     returns-2)

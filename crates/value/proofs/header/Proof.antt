@@ -3,14 +3,16 @@ use borrow.Author.Needs.{needs}
 use mathlib.Core.Path.{_≡_, sym, ap, _∙_}
 use mathlib.Core.Option.{some}
 use Rattle.slices.specs.Lists.{part-to-end}
-use Rattle.msgpack.specs.Lookup.{found, lastValue, under}
+use Rattle.msgpack.specs.Lookup.{found, lastValue}
 use Rattle.msgpack.specs.LookupLaws.{value-whole}
 use Rattle.msgpack.specs.PairLaws.{told-inside, told-found}
-use Rattle.value.specs.Header.{secondaryKey, alone, header, toldOf}
+use Rattle.refusals.specs.Limit.{packLimit}
+use Rattle.value.specs.Header.{secondaryKey, toldOf, headerAlone}
+use Rattle.value.proofs.Headers.{not-described, described-alone, described-with}
 use Rattle.value.proofs.header.Statement.{statement}
 use Rattle.value.proofs.header.Tie as tie
 
-alone-read : (c : tie.After-known-told) → alone (c .before .before .before .before .before .args .map .now) ≡ some (c .before .t .given .0 .0)
+alone-read : (c : tie.After-known-told) → headerAlone (c .before .before .before .before .before .args .map .now) ≡ some (c .before .t .given .0 .0)
 alone-read c = sym (c .before .before .before .alone .ensures) ∙ ap toldOf (c .before .t .given .1)
 
 alone-requires : tie.Need-alone-requires
@@ -23,12 +25,10 @@ enum-told : tie.Need-enum-told
 enum-told c = search needs
 
 returns : tie.Need-returns
-unfolding header
-returns c = rw (sym (c .before .before .alone .ensures) ∙ ap toldOf (c .enum-told .given .1))
+returns c = rw (not-described packLimit _ (sym (c .before .before .alone .ensures) ∙ ap toldOf (c .enum-told .given .1)))
 
 returns-2 : tie.Need-returns-2
-unfolding header under
-returns-2 c = rw (alone-read (c .before), c .before .before .before .before .before .before .pre .secondary, c .if1 .taken)
+returns-2 c = rw (described-alone packLimit _ _ (alone-read (c .before)) (c .before .before .before .before .before .before .pre .secondary ∙ rw (c .if1 .taken)))
 
 -- where the list stands
 list-found : (c : tie.Else1) → lastValue secondaryKey (c .before .before .before .before .before .before .args .map .now) ≡ found (c .before .before .before .before .before .before .args .places .s)
@@ -49,8 +49,7 @@ with-list-requires c κs =
     rw (part-to-end (a .places .s) (a .map .now)) (value-whole _ _ _ (list-found (c .before)))
 
 returns-3 : tie.Need-returns-3
-unfolding header under
-returns-3 c = c .with-list .ensures ∙ rw (part-to-end, alone-read (c .before .before .before), list-found (c .before .before))
+returns-3 c = c .with-list .ensures ∙ rw (part-to-end, described-with packLimit _ _ (alone-read (c .before .before .before)) _ (list-found (c .before .before)))
 
 pub header-spec : {M : Type 1} → statement M
 header-spec =

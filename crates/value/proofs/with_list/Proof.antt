@@ -2,13 +2,12 @@
 use borrow.Author.Needs.{needs}
 use mathlib.Core.Path.{_≡_, sym, ap, _∙_}
 use mathlib.Core.Option.{some}
-use borrow.Author.Tests.{eq-eqb, ne-eqb}
 use native.Mathlib.Omega.{arith}
 use Rattle.slices.specs.Lists.{part-to-end}
 use Rattle.msgpack.specs.Formats.{arrayKind}
 use Rattle.msgpack.specs.Readers.{counted, readArray, countedOf}
 use Rattle.msgpack.specs.ReaderLaws.{head-inside, first-item}
-use Rattle.value.specs.Header.{withList}
+use Rattle.value.proofs.Lookups.{list-empty, list-single, list-longer, no-list}
 use Rattle.value.proofs.with_list.Statement.{statement}
 use Rattle.value.proofs.with_list.Tie as tie
 
@@ -22,8 +21,7 @@ enum-known-count : tie.Need-enum-known-count
 enum-known-count c = search needs
 
 returns : tie.Need-returns
-unfolding withList
-returns c = rw (items-read (c .before), eq-eqb _ 0 (c .if1 .taken))
+returns c = rw (list-empty _ _ _ _ _ (items-read (c .before)) (c .if1 .taken))
 
 sub-with-map : tie.Need-sub-with-map
 sub-with-map c = omega (arith, head-inside arrayKind _ _ (items-read (c .before .before)))
@@ -42,20 +40,17 @@ with-map-requires c κs =
     (first-item (a .args .s .now) _ (items-read (n .before .before)) (omega (arith, n .if2 .taken)) (a .pre))
 
 returns-2 : tie.Need-returns-2
-unfolding withList
 returns-2 c = let n = c .before .before in
-    c .with-map .ensures ∙ rw (part-to-end, items-read (n .before .before), ne-eqb _ 0 (n .before .if1 .left), eq-eqb _ 1 (n .if2 .taken))
+    c .with-map .ensures ∙ rw (part-to-end, list-single _ _ _ _ _ (items-read (n .before .before)) (n .if2 .taken))
 
 enum-told : tie.Need-enum-told
 enum-told c = search needs
 
 returns-3 : tie.Need-returns-3
-unfolding withList
-returns-3 c = rw (items-read (c .before .before), ne-eqb _ 0 (c .before .if1 .left), ne-eqb _ 1 (c .if2 .left))
+returns-3 c = rw (list-longer _ _ _ _ _ (items-read (c .before .before)) (c .before .if1 .left) (c .if2 .left))
 
 returns-4 : tie.Need-returns-4
-unfolding withList
-returns-4 c = rw (sym (c .before .before .read-array .ensures) ∙ ap countedOf (c .enum-told .given .1))
+returns-4 c = rw (no-list _ _ _ (sym (c .before .before .read-array .ensures) ∙ ap countedOf (c .enum-told .given .1)))
 
 pub with-list-spec : {M : Type 1} → statement M
 with-list-spec =

@@ -6,6 +6,7 @@ use borrow.Author.Tests.{le-leb, lt-leb, not-true, not-false}
 use lib.ListN.{getD}
 use Rattle.refusals.specs.Limit.{packLimit}
 use Rattle.endian.specs.Places.{numberOf}
+use Rattle.msgpack.specs.Views.{byteView}
 use Rattle.msgpack.specs.PairLaws.{told-inside}
 use Rattle.value.specs.Fields.{naturalUnder}
 use Rattle.value.specs.Header.{lengthKey, compressionKey, withMap}
@@ -18,14 +19,14 @@ use Rattle.value.proofs.with_map.Tie as tie
 places-are : (c : tie.Else1) → SecondaryAt (c .before .before .before .before .before .before .args .map .now) (c .before .before .read-pairs .result .places)
 places-are c = secondary-places _ _ (c .before .before .read-pairs .ensures) (c .before .before .before .before .before .before .pre) (not-false _ (c .if1 .left))
 
-length-read : (c : tie.After-known-told) → naturalUnder lengthKey (c .before .before .before .before .before .before .before .before .before .before .before .args .map .now) none
+length-read : (c : tie.After-known-told) → naturalUnder byteView lengthKey (c .before .before .before .before .before .before .before .before .before .before .before .args .map .now) none
     ≡ some (c .before .l .given .0 .0)
 length-read c =
     natural-told _ _ (getD (c .before .before .before .before .before .before .before .read-pairs .result .places) 0 0) (places-are (c .before .before .before .before .before) .size) none
     ∙ sym (c .before .before .before .natural-under .ensures) ∙ ap numberOf (c .before .l .given .1)
 
 compression-read : (c : tie.After-known-told2)
-    → naturalUnder compressionKey (c .before .before .before .before .before .before .before .before .before .before .before .before .before .before .before .before .args .map .now)
+    → naturalUnder byteView compressionKey (c .before .before .before .before .before .before .before .before .before .before .before .before .before .before .before .before .args .map .now)
     (some (c .before .before .before .before .before .before .before .before .before .before .before .before .before .before .before .before .args .t .primary .compression))
     ≡ some (c .before .compression .given .0 .0)
 compression-read c =

@@ -1,7 +1,7 @@
 -- `capi_reading::record::tell` meets its contract: what was read is told where there is room for all of it.
 use native.Mathlib.Omega.{arith}
 use borrow.Author.Needs.{needs}
-use Rattle.capi_reading.proofs.Records.{few-words, few-bytes, text-written, text-short, rules, places-fit, told-holds}
+use Rattle.capi_reading.proofs.Records.{few-words, few-bytes, text-written, text-short, here, rules, told-holds}
 use Rattle.capi_reading.proofs.record.tell.Statement.{statement}
 use Rattle.capi_reading.proofs.record.tell.Tie as tie
 
@@ -9,18 +9,7 @@ answer-requires : tie.Need-answer-requires
 answer-requires c κs = search needs
 
 returns : tie.Need-returns
-returns c =
-    let start = c .before .before .before .before .before in
-    rw (c .answer .ensures) (few-words _ _ _ _ _ _ (start .pre .is) (omega arith))
-
-add-start : tie.Need-add-start
-add-start c = search needs
-
-part-requires : tie.Need-part-requires
-part-requires c κs = search needs
-
-part-requires-2 : tie.Need-part-requires-2
-part-requires-2 c κs = search needs
+returns c = λ at h. rw (c .answer .ensures) (few-words _ _ _ _ _ _ (here _ _ _ _ h .is) (omega arith))
 
 write-text-requires : tie.Need-write-text-requires
 write-text-requires c κs = search needs
@@ -35,15 +24,14 @@ same-length : tie.Need-same-length
 same-length c = search needs
 
 returns-2 : tie.Need-returns-2
-returns-2 c =
-    let start = c .before .before .before .before .before .before .before .before .before .before .before .before .before in
+returns-2 c = λ at h.
+    let start = c .before .before .before .before .before .before .before .before .before .before in
     let wrote = c .before .before .before .before .write-text in
-    let holds = rw (c .before .before .before .before .before .part2 .ensures, c .before .before .before .before .before .before .before .before .part .ensures) at (wrote .ensures) in
-    let short = text-short _ (start .args .id .now) (rules _ _ _ _ (start .pre)) (wrote .result) (holds .0) (wrote .last .0) (holds .1) (c .before .match .keys2) in
-    rw (c .answer2 .ensures, short .is) (few-bytes _ _ _ _ _ _ (start .pre .is) (omega arith) (short .room))
+    let short = text-short _ (start .args .id .now) (rules _ _ _ _ h) (wrote .result) (wrote .ensures .0) (wrote .last .0) (wrote .ensures .1) (c .before .match .keys2) in
+    rw (c .answer2 .ensures, short .is) (few-bytes _ _ _ _ _ _ (here _ _ _ _ h .is) (omega arith) (short .room))
 
 record-words-requires : tie.Need-record-words-requires
-record-words-requires c κs = places-fit _ _ _ _ (c .before .before .before .before .before .before .before .before .before .before .before .before .before .before .before .pre)
+record-words-requires c κs = search needs
 
 slice-aggregate-store : tie.Need-slice-aggregate-store
 slice-aggregate-store c = search needs
@@ -61,14 +49,13 @@ same-length-3 : tie.Need-same-length-3
 same-length-3 c = search needs
 
 returns-3 : tie.Need-returns-3
-returns-3 c =
-    let start = c .before .before .before .before .before .before .before .before .before .before .before .before .before .before .before .before .before .before .before .before .before in
+returns-3 c = λ at h.
+    let start = c .before .before .before .before .before .before .before .before .before .before .before .before .before .before .before .before .before .before in
     let wrote = c .before .before .before .before .before .before .before .before .before .before .before .before .write-text in
-    let holds = rw (c .before .before .before .before .before .before .before .before .before .before .before .before .before .part2 .ensures, c .before .before .before .before .before .before .before .before .before .before .before .before .before .before .before .before .part .ensures) at (wrote .ensures) in
-    let text = text-written _ (start .args .id .now) (rules _ _ _ _ (start .pre)) (wrote .result) (holds .0) (wrote .last .0) (holds .1) _ (c .before .before .before .before .before .before .before .before .n .given .1) in
-    let words = c .before .before .before .before .before .record-words .ensures _ (start .pre .contents .kind) in
+    let text = text-written _ (start .args .id .now) (rules _ _ _ _ h) (wrote .result) (wrote .ensures .0) (wrote .last .0) (wrote .ensures .1) _ (c .before .before .before .before .before .before .before .before .n .given .1) in
+    let words = c .before .before .before .before .before .record-words .ensures _ (here _ _ _ _ h .from) in
     rw (c .answer3 .ensures)
-    (told-holds _ _ _ _ (start .pre) (start .args .told .now) (start .args .id .now) _ (omega (arith, c .before .before .before .before .before .before .before .before .before .before .before .before .before .before .before .before .before .if1 .left)) _ words _ _ (c .before .before .before .store .ensures .1) text)
+    (told-holds _ _ _ _ h (start .args .told .now) (start .args .id .now) _ (omega (arith, c .before .before .before .before .before .before .before .before .before .before .before .before .before .before .if1 .left)) _ words _ _ (c .before .before .before .store .ensures .1) text)
 
 pub tell-spec : {M : Type 1} → statement M
 tell-spec =
@@ -76,9 +63,6 @@ tell-spec =
     (tie.spec
     answer-requires
     returns
-    add-start
-    part-requires
-    part-requires-2
     write-text-requires
     enum-known-n
     answer-requires-2

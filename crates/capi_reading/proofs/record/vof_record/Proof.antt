@@ -14,10 +14,7 @@ enum-known-record : tie.Need-enum-known-record
 enum-known-record c = search needs
 
 tell-requires : tie.Need-tell-requires
-tell-requires c κs =
-    let start = c .before .before .before .before .before .before .before .before .before in
-    let read = c .before .before .before .before .before .read-at in
-    is-record (start .args .pack .now) (start .args .at) (read .result) (read .ensures .0) (read .ensures .1) _ _ _ (c .before .before .before .«record» .given .1)
+tell-requires c κs = search needs
 
 enum-told : tie.Need-enum-told
 enum-told c = search needs
@@ -56,7 +53,10 @@ same-length-2 : tie.Need-same-length-2
 same-length-2 c = search needs
 
 returns : tie.Need-returns
-returns c = search needs
+returns c =
+    let start = c .before .before .before .before .before .before .before .before .before .before .before .before .before .before in
+    let read = c .before .before .before .before .before .before .before .before .before .before .read-at in
+    c .before .before .before .before .tell .ensures _ (is-record (start .args .pack .now) (start .args .at) (read .result) (read .ensures .0) (read .ensures .1) _ _ (c .before .before .before .before .before .before .before .before .«record» .given .1))
 
 returns-2 : tie.Need-returns-2
 returns-2 c =

@@ -1,7 +1,7 @@
--- `capi_reading::record::told_from` meets its contract, part by part.
+-- `records::told_from` meets its contract, part by part.
 use borrow.Author.Needs.{needs}
-use Rattle.capi_reading.proofs.record.told_from.Statement.{statement}
-use Rattle.capi_reading.proofs.record.told_from.Tie as tie
+use Rattle.records.proofs.told_from.Statement.{statement}
+use Rattle.records.proofs.told_from.Tie as tie
 
 part-from-requires : tie.Need-part-from-requires
 part-from-requires c κs = search needs
