@@ -1,5 +1,5 @@
-//! A plain lookup of the current version in Rust, after document 01: one pass, and a set of what is
-//! deleted.
+//! A plain lookup of the current version in Rust, after documents 01 and 02: one pass, and a set of
+//! what is deleted.
 
 use std::cmp::Reverse;
 use std::collections::HashSet;
@@ -54,29 +54,33 @@ struct Identifier<'a> {
 /// The identifier of a version or a version delete, by its value.
 fn identifier(is_delete: bool, value: &[u8]) -> Result<Identifier<'_>, u32> {
     let mut left = primary(value)?;
-    let (mut b, mut o, mut v) = (Item::Other, Item::Other, Item::Other);
-    let (mut flag, mut delete) = (Item::Boolean, Item::Other);
-    // The last of a repeated key counts.
+    let (mut b, mut o, mut v, mut flag, mut delete) = (None, None, None, None, None);
+    // Types are tested first, on the last value of a key.
+    let mut repeated = false;
     let read = map_pairs(&mut left, |key, value| match key {
-        Item::Text(b"b") => b = value,
-        Item::Text(b"o") => o = value,
-        Item::Text(b"v") => v = value,
-        Item::Text(b"d") => flag = value,
-        Item::Text(b"???") => delete = value,
+        Item::Text(b"b") => repeated |= b.replace(value).is_some(),
+        Item::Text(b"o") => repeated |= o.replace(value).is_some(),
+        Item::Text(b"v") => repeated |= v.replace(value).is_some(),
+        Item::Text(b"d") if !is_delete => repeated |= flag.replace(value).is_some(),
+        Item::Text(b"???") if is_delete => repeated |= delete.replace(value).is_some(),
         _ => {}
     });
     if read.is_err() || !left.is_empty() {
         return Err(16);
     }
     // What is no map has no `b` either.
-    let (Item::Text(bucket), Item::Text(object), Item::Text(ulid)) = (b, o, v) else {
+    let (Some(Item::Text(bucket)), Some(Item::Text(object)), Some(Item::Text(ulid))) = (b, o, v)
+    else {
         return Err(17);
     };
     let delete = match (is_delete, flag, delete) {
-        (true, _, Item::Text(ulid)) => Some(ulid),
-        (false, Item::Boolean, _) => None,
+        (true, _, Some(Item::Text(ulid))) => Some(ulid),
+        (false, None | Some(Item::Boolean), _) => None,
         _ => return Err(17),
     };
+    if repeated {
+        return Err(22);
+    }
     if !(is_ulid(ulid) && is_bucket(bucket) && is_object(object) && delete.map_or(true, is_ulid)) {
         return Err(18);
     }
@@ -91,46 +95,62 @@ fn identifier(is_delete: bool, value: &[u8]) -> Result<Identifier<'_>, u32> {
 /// encrypted.
 fn primary(value: &[u8]) -> Result<&[u8], u32> {
     let mut left = value;
-    let (mut e, mut s, mut encrypted) = (Item::Other, Item::List(0, &[]), false);
-    let (mut c, mut v) = (Item::Natural(0), Item::Natural(0));
+    let (mut e, mut s, mut c, mut z, mut v) = (None, None, None, None, None);
+    let mut repeated = false;
     map_pairs(&mut left, |key, value| match key {
-        Item::Text(b"e") => e = value,
-        Item::Text(b"s") => s = value,
-        Item::Text(b"c") => c = value,
-        Item::Text(b"v") => v = value,
-        Item::Text(b"z") => encrypted = true,
+        Item::Text(b"e") => repeated |= e.replace(value).is_some(),
+        Item::Text(b"s") => repeated |= s.replace(value).is_some(),
+        Item::Text(b"c") => repeated |= c.replace(value).is_some(),
+        Item::Text(b"z") => repeated |= z.replace(value).is_some(),
+        Item::Text(b"v") => repeated |= v.replace(value).is_some(),
         _ => {}
     })?;
     // What is no map has no `e` either.
-    let (Item::Bytes(e), Item::Natural(c), Item::Natural(v)) = (e, c, v) else {
+    let Some(Item::Bytes(e)) = e else {
         return Err(11);
     };
-    if left.len() as u64 != secondary_length(s)? {
+    let (c, v) = (natural_or_0(c)?, natural_or_0(v)?);
+    let (length, inner_repeated) = secondary_length(s)?;
+    if repeated || inner_repeated {
+        return Err(22);
+    }
+    if left.len() as u64 != length {
         return Err(12);
     }
     if v != 0 {
         return Err(14);
     }
-    if encrypted || c != 0 {
+    if z.is_some() || c != 0 {
         return Err(15);
     }
     Ok(e)
 }
 
-fn secondary_length(parameters: Item) -> Result<u64, u32> {
+fn natural_or_0(found: Option<Item>) -> Result<u64, u32> {
+    match found {
+        None => Ok(0),
+        Some(Item::Natural(n)) => Ok(n),
+        Some(_) => Err(11),
+    }
+}
+
+/// The secondary part's length, and whether a key repeats in its parameters.
+fn secondary_length(parameters: Option<Item>) -> Result<(u64, bool), u32> {
     let mut left = match parameters {
-        Item::List(0, _) => return Ok(0),
-        Item::List(1, content) => content,
-        _ => return Err(11),
+        None | Some(Item::List(0, _)) => return Ok((0, false)),
+        Some(Item::List(1, content)) => content,
+        Some(_) => return Err(11),
     };
-    let (mut l, mut c) = (Item::Other, Item::Natural(0));
+    let (mut l, mut c, mut z, mut repeated) = (None, None, None, false);
     map_pairs(&mut left, |key, value| match key {
-        Item::Text(b"l") => l = value,
-        Item::Text(b"c") => c = value,
+        Item::Text(b"l") => repeated |= l.replace(value).is_some(),
+        Item::Text(b"c") => repeated |= c.replace(value).is_some(),
+        Item::Text(b"z") => repeated |= z.replace(value).is_some(),
         _ => {}
     })?;
-    match (l, c) {
-        (Item::Natural(l), Item::Natural(_)) if l <= tlv::PACK_LIMIT as u64 => Ok(l),
+    natural_or_0(c)?;
+    match l {
+        Some(Item::Natural(l)) if l <= tlv::PACK_LIMIT as u64 => Ok((l, repeated)),
         _ => Err(11),
     }
 }

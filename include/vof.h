@@ -1,8 +1,8 @@
 /* LTFS-VOF packs, read and written by proved functions: link libvof.a or libvof.so, which
    bin/build-library makes.
 
-   Every input has an answer: a result, or a refusal with a number from 1 to 20. docs/REFUSALS.md
-   says what each number means and what to do about it.
+   Every input has an answer: a result, or a refusal with a number from 1 to 20, or 22.
+   docs/REFUSALS.md says what each number means and what to do about it.
 
    Each function but vof_xxh64 answers number + 256 * word, which vof_number and vof_word take
    apart. The number is that of the refusal, or 0. The word is 0 where nothing else is said. "With
@@ -81,8 +81,8 @@ enum {
 /* Reads the record at a place of a pack. The rest of the pack is not looked at.
    `told` then has VOF_RECORD_NUMBERS numbers, and `id` the identifier's composite text, whose
    length is one of them; both keep the rest.
-   Refusals: 20 where the place is not inside the pack; 1 to 8, with the place; 9 to 18; 19 where
-   `told` or `id` is too short. VOF_COMPOSITE_LENGTH bytes suffice for any `id`. */
+   Refusals: 20 where the place is not inside the pack; 1 to 8, with the place; 9 to 18 and 22;
+   19 where `told` or `id` is too short. VOF_COMPOSITE_LENGTH bytes suffice for any `id`. */
 uint64_t vof_record(const uint8_t *pack, size_t pack_length, size_t at, uint64_t *told,
                     size_t told_length, uint8_t *id, size_t id_length);
 
@@ -105,7 +105,7 @@ enum {
 /* Takes a value apart, for whoever opens compressed or encrypted parts: `c`, `z` and `v` are told
    and not tested.
    `told` then has VOF_VALUE_NUMBERS numbers, and keeps the rest.
-   Refusals: 9 to 12; 19 where `told` is too short. */
+   Refusals: 9 to 12 and 22; 19 where `told` is too short. */
 uint64_t vof_value(const uint8_t *value, size_t value_length, uint64_t *told, size_t told_length);
 
 /* What vof_current tells: four zeros where there is no current version. */
@@ -122,7 +122,7 @@ enum {
    `told` then has VOF_CURRENT_NUMBERS numbers, and `ulid`, where a version was found, its ULID in
    VOF_ULID_LENGTH bytes; both keep the rest.
    Refusals: 20 where the bucket or the object breaks the rules for names; 1 to 8 of the pack, then
-   9 to 12 and 14 to 18 of its first version or version delete that cannot be read, all with the
+   9 to 12, 14 to 18 and 22 of its first version or version delete that cannot be read, all with the
    place; 19 where `told` is too short, or `ulid` where a version was found. */
 uint64_t vof_current(const uint8_t *pack, size_t pack_length, const uint8_t *bucket,
                      size_t bucket_length, const uint8_t *object, size_t object_length,
@@ -141,11 +141,11 @@ uint64_t vof_current(const uint8_t *pack, size_t pack_length, const uint8_t *buc
 uint64_t vof_write_block(uint8_t *buf, size_t buf_length, size_t used, const uint8_t *id,
                          size_t id_length, const uint8_t *data, size_t data_length);
 
-/* A version with this primary part, which must read as one (16 to 18). */
+/* A version with this primary part, which must read as one (16 to 18, 22). */
 uint64_t vof_write_version(uint8_t *buf, size_t buf_length, size_t used, const uint8_t *primary,
                            size_t primary_length);
 
-/* A version delete with this primary part, which must read as one (16 to 18). */
+/* A version delete with this primary part, which must read as one (16 to 18, 22). */
 uint64_t vof_write_delete(uint8_t *buf, size_t buf_length, size_t used, const uint8_t *primary,
                           size_t primary_length);
 

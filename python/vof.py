@@ -147,11 +147,16 @@ def _load():
 _library = _load()
 
 
-def _word(answer, last_with_place=8):
-    """The word of an answer; a refusal is raised, with its place up to this number."""
+# The refusals that come with a place: a pack's, and those of the lookup in it.
+_OF_PACK = range(1, 9)
+_OF_LOOKUP = (*range(1, 19), 22)
+
+
+def _word(answer, placed=_OF_PACK):
+    """The word of an answer; a refusal is raised, with its place where it is one of these."""
     word, number = divmod(answer, 256)
     if number:
-        raise Refusal(number, word if number <= last_with_place else None)
+        raise Refusal(number, word if number in placed else None)
     return word
 
 
@@ -244,8 +249,8 @@ def scan(pack):
 
 
 def record(pack, at):
-    """The Record at a place of a pack; the rest of the pack is not looked at. Refusals 1 to 18, and
-    20 for a place that is not inside the pack."""
+    """The Record at a place of a pack; the rest of the pack is not looked at. Refusals 1 to 18 and
+    22, and 20 for a place that is not inside the pack."""
     told, composite = _numbers(16), ctypes.create_string_buffer(1115)
     _word(_library.vof_record(*_lent(pack), _size(at), told, 16, composite, len(composite)))
     # In the order of include/vof.h; so too below.
@@ -264,7 +269,7 @@ def record(pack, at):
 
 def value(value):
     """A Value taken apart, for whoever opens compressed or encrypted parts: how they are encoded,
-    and the structure's version, are told and not tested. Refusals 9 to 12."""
+    and the structure's version, are told and not tested. Refusals 9 to 12 and 22."""
     told = _numbers(10)
     _word(_library.vof_value(*_lent(value), told, 10))
     return Value(told[9], *_parts(told[0:2], told[2], told[3:5], told[5:9]))
@@ -272,14 +277,14 @@ def value(value):
 
 def current(pack, bucket, object):
     """The current Version of an object, or None. If it is a delete marker, the object counts as
-    deleted, whatever older versions there are. Refusals 1 to 8 of the pack, then 9 to 12 and 14 to
-    18 of its first version or version delete that cannot be read, all with the place; 20 for a name
-    that breaks the rules."""
+    deleted, whatever older versions there are. Refusals 1 to 8 of the pack, then 9 to 12, 14 to
+    18 and 22 of its first version or version delete that cannot be read, all with the place; 20 for
+    a name that breaks the rules."""
     bucket, object = _text(bucket), _text(object)
     told, ulid = _numbers(4), ctypes.create_string_buffer(26)
     names = *_lent(bucket), *_lent(object)
     answer = _library.vof_current(*_lent(pack), *names, told, 4, ulid, 26)
-    _word(answer, last_with_place=18)
+    _word(answer, _OF_LOOKUP)
     found, start, value_length, is_delete_marker = told
     if not found:
         return None

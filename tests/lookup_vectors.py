@@ -1,8 +1,8 @@
 #!/usr/bin/env python3
 """tests/lookup_vectors.py [--check]: makes the vectors of crates/lookup_vectors.
 
-Written from document 01 and not from the definitions that are proved. What a lookup is to find is
-said twice: by the plain lookup of this file, and by hand, but for the random packs. Without
+Written from documents 01 and 02 and not from the definitions that are proved. What a lookup is to
+find is said twice: by the plain lookup of this file, and by hand, but for the random packs. Without
 arguments the script writes the program's stored stdin and stdout; with --check it compares them.
 That the program prints this stdout is checked by rt.
 """
@@ -279,6 +279,7 @@ def names():
 def others():
     case("empty pack", [], (LIST, None))
     old, new = version(OLD, *LIST), version(NEW, *LIST)
+    id = GREATEST + ":herd/list"
     for title, other in [
         ("a block", block(GREATEST, *LIST, b"abc")),
         ("an empty block", block(GREATEST, *LIST, b"")),
@@ -289,6 +290,8 @@ def others():
         ("an unknown tag without a value", record(b"xx", b"")),
         ("an unknown tag with C1", record(b"\0\0", b"\xc1")),
         ("a pack list", record(b"ol", item({"e": b""}))),
+        ("a block with e twice", record(b"bk", pairs(*[("e", item({"I": id}))] * 2))),
+        ("a block with I twice", record(b"bk", item({"e": bytes(pairs(*[("I", id)] * 2))}))),
         ("a block with spare bytes", with_spare(block(OLD, *LIST, b"abc"), 0xFFFF)),
     ]:
         orders(title + " passed over", [old, other, new], (LIST, new))
@@ -364,20 +367,14 @@ def keys():
         title = "keys in the order " + " ".join(key for key, _ in order)
         case(title, [x, old], (LIST, x))
         case(title + ", deleted", [x, old, y], (LIST, old))
-    for key, wrong in [("b", NIL), ("b", "pen"), ("o", ""), ("v", GREATEST), ("???", True)]:
-        both("%s again, %s first" % (key, item(wrong).hex()), pairs((key, wrong), *KEYS.items()))
-    for name, last in [(PEN, ("b", "pen")), (SCAN, ("o", SCAN[1]))]:
-        e = item({"e": bytes(pairs(*KEYS.items(), last))})
-        x, y = record(b"vr", e), record(b"vd", e)
-        orders("renamed by a later " + last[0], [old, x], (LIST, old), (name, x))
-        orders("renamed by a later %s, deleted" % last[0], [old, x, y], (LIST, old), (name, None))
-    x = record(b"vr", item({"e": bytes(pairs(*KEYS.items(), ("v", LEAST)))}))
-    orders("an older ULID by a later v", [old, x], (LIST, old))
-    for flags in itertools.product([NIL, False, True], [False, True]):
-        x = record(b"vr", item({"e": bytes(pairs(*[("d", f) for f in flags], *KEYS.items()))}))
-        title = "d again, " + " ".join(item(flag).hex() for flag in flags)
-        case(title, [x, old], (LIST, x))
-        assert (b" delete marker at " in outputs[-1]) == flags[1], title
+    for key in ("x", "I", "D", "e", 5, NIL):
+        both("%s twice" % item(key).hex(), pairs((key, 1), *KEYS.items(), (key, {"b": 2})))
+    # What only the other kind reads.
+    new = version(NEW, *LIST)
+    x = record(b"vr", item({"e": bytes(pairs(("???", 1), *KEYS.items()))}))
+    orders("??? twice in a version", [old, x], (LIST, x))
+    y = record(b"vd", item({"e": bytes(pairs(("d", 1), *KEYS.items(), ("d", True)))}))
+    orders("d twice in a deletion", [old, new, y], (LIST, old))
 
 
 def inadmissible():
@@ -459,7 +456,8 @@ def damaged():
 
 
 def value_faults(tag, e):
-    """Records of a tag under each of 9 to 15, and under 16 in what fills `e`. e: a right part."""
+    """Records of a tag under each of 9 to 15, under 22 in the header, and under 16 in what fills
+    `e`. e: a right part."""
 
     def made(number, s):
         return number, record(tag, bytes(s))
@@ -474,6 +472,13 @@ def value_faults(tag, e):
     yield made(11, item([e]))
     yield made(11, item({"e": e.decode(errors="surrogateescape")}))
     yield made(11, item({"e": e, "v": Raw(b"\xff")}) + b"a")
+    yield made(11, pairs(("e", e), ("e", e), ("v", NIL)))
+    for key, x in [("e", e), ("s", []), ("c", 1), ("z", 1), ("v", 1)]:
+        # 22 before 12, 14 and 15.
+        yield made(22, pairs((key, x), ("e", e), (key, x)))
+        yield made(22, pairs((key, NIL), ("e", e), (key, x)) + b"a")
+    for key, x in [("l", 1), ("c", 1), ("z", NIL)]:
+        yield made(22, pairs(("e", e), ("s", [pairs((key, x), ("l", 1), (key, x))])) + b"a")
     yield made(12, item({"e": e}) + b"a")
     yield made(12, item({"e": e, "v": 1, "s": [{"l": 2}]}) + b"a")
     yield made(14, item({"e": e, "v": 1}))
@@ -487,10 +492,10 @@ def value_faults(tag, e):
 
 
 def part_faults(tag, keys):
-    """Records of a tag under each of 16 to 18. keys: those of a right primary part."""
+    """Records of a tag under each of 16, 17, 22 and 18. keys: those of a right primary part."""
 
     def made(number, e):
-        return number, record(tag, item({"e": item(e)}))
+        return number, record(tag, item({"e": bytes(item(e))}))
 
     def other(number, key, x):
         return made(number, {**keys, key: x})
@@ -502,6 +507,13 @@ def part_faults(tag, keys):
         yield made(17, {k: x for k, x in keys.items() if k != key})
         yield other(17, key, b"bytes")
     yield made(17, {**keys, "v": "x", "o": 1})
+    others = {"b": PEN[0], "o": SCAN[1], "v": GREATEST, "???": NEW}
+    for key, x in keys.items():
+        for first in (x, others[key], "", NIL):
+            yield made(22, pairs((key, first), *keys.items()))
+        for last in (others[key], ""):
+            yield made(22, pairs(*keys.items(), (sized(0xD9, 1, len(key), key.encode()), last)))
+        yield made(17, pairs(*keys.items(), (key, NIL)))
     for ulid in (NEW[:25] + "U", NEW.lower(), NEW[:25], ""):
         yield other(18, "v", ulid)
     for bucket in ("b" * 64, "he/rd", ""):
@@ -510,6 +522,8 @@ def part_faults(tag, keys):
     if tag == b"vr":
         yield other(17, "d", NIL)
         yield made(17, {**keys, "v": "x", "d": 1})
+        for flags in itertools.product([NIL, False, True], [False, True]):
+            yield made(22, pairs(*[("d", flag) for flag in flags], *keys.items()))
     else:
         yield other(18, "???", BY[:25])
         yield other(18, "???", BY.lower())

@@ -78,13 +78,13 @@ def item(x):
         return head(len(text), 0xA0, 32, [(0xD9, 1), (0xDA, 2), (0xDB, 4)]) + text
     if isinstance(x, list):
         return head(len(x), 0x90, 16, [(0xDC, 2), (0xDD, 4)]) + b"".join(map(item, x))
-    pairs = b"".join(item(key) + item(value) for key, value in x.items())
-    return head(len(x), 0x80, 16, [(0xDE, 2), (0xDF, 4)]) + pairs
+    return bytes(pairs(*x.items()))
 
 
 def pairs(*given):
     """A map of any pairs, keys that come twice included."""
-    return Raw(bytes([0x80 + len(given)]) + b"".join(item(x) for pair in given for x in pair))
+    content = b"".join(item(x) for pair in given for x in pair)
+    return Raw(head(len(given), 0x80, 16, [(0xDE, 2), (0xDF, 4)]) + content)
 
 
 def sized(first, width, n, content=b""):

@@ -1,4 +1,4 @@
-"""A plain reader by document 01 and docs/FORMAT.md, for the scripts that make vectors.
+"""A plain reader by documents 01 and 02 and docs/FORMAT.md, for the scripts that make vectors.
 
 Written from these and not from the definitions that are proved.
 """
@@ -88,10 +88,21 @@ class Reader:
         return self.made(SIZED[start], self.take(size + (start == 0xC7)))
 
 
+def values(map, key):
+    """All that stands under a key, in whatever width this is written."""
+    return [value for name, value in map.content if (name.type, name.content) == ("text", key)]
+
+
 def under(map, key):
-    """What stands under a key: the last of its values counts."""
-    values = [value for name, value in map.content if (name.type, name.content) == ("text", key)]
-    return values[-1] if values else None
+    """What types and rules are tested on: the last value of a key."""
+    found = values(map, key)
+    return found[-1] if found else None
+
+
+def once(map, *keys):
+    """Refusal 22 where one of these keys is given twice, with equal values too."""
+    if any(len(values(map, key)) > 1 for key in keys):
+        raise Refusal("22")
 
 
 def typed(type, found, number):
@@ -114,7 +125,7 @@ def natural(found, absent):
 
 
 def read_value(s):
-    """Refusals 9 to 12, or what the value tells."""
+    """Refusals 9, 10, 11, 22 and 12, in this order, or what the value tells."""
     map = Reader(s).item()
     if map.type != "map":
         raise Refusal("11")
@@ -134,6 +145,9 @@ def read_value(s):
         if length > LIMIT:
             raise Refusal("11")
         c2, z2 = natural(under(inner, b"c"), c), z or under(inner, b"z") is not None
+    once(map, b"e", b"s", b"c", b"z", b"v")
+    for inner in maps:
+        once(inner, b"l", b"c", b"z")
     if map.end + length != len(s):
         raise Refusal("12")
     primary = Part(found.end - len(content), len(content), c, z)
@@ -188,15 +202,25 @@ def read_part(s):
     return map
 
 
+NAMES = (b"v", b"b", b"o")
+
+
 def texts(map):
-    return [typed("text", under(map, key), "17") for key in (b"v", b"b", b"o")]
+    return [typed("text", under(map, key), "17") for key in NAMES]
 
 
 def read_block(s):
-    found = under(read_part(s), b"I")
+    """Refusals 16, 17, 22 and 18, in this order, or the identifier; so too below."""
+    map = read_part(s)
+    found = under(map, b"I")
     if found is not None and found.type == "map":
-        return identifier(*texts(found))
-    return composite(typed("text", found, "17"))
+        names = texts(found)
+        once(map, b"I")
+        once(found, *NAMES)
+        return identifier(*names)
+    text = typed("text", found, "17")
+    once(map, b"I")
+    return composite(text)
 
 
 def read_version(s):
@@ -204,6 +228,7 @@ def read_version(s):
     map = read_part(s)
     names, flag = texts(map), under(map, b"d")
     deleted = False if flag is None else typed("boolean", flag, "17")
+    once(map, *NAMES, b"d")
     return identifier(*names), deleted
 
 
@@ -211,6 +236,7 @@ def read_delete(s):
     """The identifier, and the delete identifier."""
     map = read_part(s)
     names, by = texts(map), typed("text", under(map, b"???"), "17")
+    once(map, *NAMES, b"???")
     id = identifier(*names)
     if not is_ulid(by):
         raise Refusal("18")

@@ -1,11 +1,11 @@
 #!/usr/bin/env python3
 """tests/record_vectors.py [--check]: makes the vectors of crates/record_vectors.
 
-Written from document 01, docs/FORMAT.md and document 001, and not from the definitions that are
-proved. What a vector is to give is said twice: by the plain reader of tests/reader.py, and by hand,
-where it is a refusal or stands in the documents; of calls of the writer by the plain writer, and by
-hand. Without arguments the script writes the program's stored stdin and stdout; with --check it
-compares them. That the program prints this stdout is checked by rt.
+Written from documents 01 and 02, docs/FORMAT.md and document 001, and not from the definitions that
+are proved. What a vector is to give is said twice: by the plain reader of tests/reader.py, and by
+hand, where it is a refusal or stands in the documents; of calls of the writer by the plain writer,
+and by hand. Without arguments the script writes the program's stored stdin and stdout; with --check
+it compares them. That the program prints this stdout is checked by rt.
 """
 import sys
 from collections import namedtuple
@@ -436,34 +436,6 @@ def values_keys():
     vector("value", "no e but keys of other types", pairs(*ODD), 11)
     odd = pairs(*[(b"l", 2), (108, 2), ("ll", 2), (Raw(b"\xa1\xff"), 0), ("l", 1), (b"l", 2)])
     vector("value", "in s unknown keys and keys of other types", pairs(e, ("s", [odd])) + b"a")
-    for form, x in list(every_text(b"e"))[1:]:
-        vector("value", "e again as " + form, pairs(("e", 5), (x, b"q")))
-        vector("value", "e again, wrong, as " + form, pairs((x, b"q"), ("e", 5)), 11)
-    one, two = [{"l": 1}], [{"l": 2}]
-    for name, first, last, wanted in [
-        ("e", [("e", b"p")], [("e", b"qqq")], None),
-        ("c", [("c", 9)], [("c", 4), e], None),
-        ("c, wrong first", [("c", "x")], [("c", 4), e], None),
-        ("c, wrong last", [("c", 4)], [("c", "x"), e], 11),
-        ("v, wrong first", [("v", NIL)], [("v", 4), e], None),
-        ("v, wrong last", [("v", 4)], [("v", NIL), e], 11),
-        ("s", [("s", two)], [("s", one), e], None),
-        ("s, wrong first", [("s", 5)], [("s", one), e], None),
-        ("s, wrong last", [("s", one)], [("s", 5), e], 11),
-        ("s, empty last", [("s", one)], [("s", []), e], 12),
-        ("z", [("z", 1)], [("z", NIL), e], None),
-    ]:
-        data = b"a" if name in ("s", "s, wrong first", "s, empty last") else b""
-        vector("value", "repeated " + name, pairs(*first, *last) + data, wanted)
-    for name, given, wanted in [
-        ("l", [("l", 2), ("l", 1)], None),
-        ("l, wrong first", [("l", "x"), ("l", 1)], None),
-        ("l, wrong last", [("l", 1), ("l", "x")], 11),
-        ("c", [("c", NIL), ("l", 1), ("c", 4)], None),
-        ("c, wrong last", [("c", 4), ("l", 1), ("c", NIL)], 11),
-    ]:
-        s = pairs(("s", [pairs(*given)]), e)
-        vector("value", "in s repeated " + name, s + b"a", wanted)
 
 
 def parts(kind, given):
@@ -503,11 +475,6 @@ def identifier_maps(kind, made):
         vector(kind, "no " + key, made(*without), 17)
         for name in ("nil", "bytes", "integer", "map"):
             read("%s is %s" % (key, name), 17, **{key: WRONG[name]})
-        again = (key, right[key])
-        vector(kind, "repeated %s, wrong first" % key, made((key, NIL), *right.items(), again))
-        vector(kind, "repeated %s, wrong last" % key, made(*right.items(), (key, NIL)), 17)
-        broken = made(*right.items(), (key, ""))
-        vector(kind, "repeated %s, empty last" % key, broken, 18)
     for name, ulid in ULIDS:
         read("v " + name, 18, v=ulid)
     read("bucket of 1", b="b")
@@ -553,13 +520,6 @@ def blocks():
     vector("block", "I with object of 1025", item({"I": ULID + ":b/" + "o" * 1025}), 18)
     text = ULID.encode() + b":\xff/\xfe"
     vector("block", "I with bytes that are no UTF-8", item({"I": sized(0xD9, 1, 30, text)}))
-    for name, first, last, wanted in [
-        ("text last", map, HERD, None),
-        ("map last", "x", map, None),
-        ("wrong last", HERD, 5, 17),
-        ("broken last", HERD, "x", 18),
-    ]:
-        vector("block", "repeated I, " + name, pairs(("I", first), ("I", last)), wanted)
 
 
 def versions():
@@ -569,11 +529,6 @@ def versions():
     vector("version", "d false", item({**map, "d": False}), TOLD + " d 0")
     vector("version", "d true", item({**map, "d": True}), TOLD + " d 1")
     wrong("version", "d", lambda x: item({**map, "d": x}), ["false"], 17)
-    again = [("d", NIL), *map.items(), ("d", True)]
-    vector("version", "repeated d, wrong first", pairs(*again), TOLD + " d 1")
-    again = [("d", True), *map.items(), ("d", NIL)]
-    vector("version", "repeated d, wrong last", pairs(*again), 17)
-    vector("version", "repeated d", pairs(*map.items(), ("d", True), ("d", False)))
     vector("version", "bad ULID and d, 17 before 18", item({**map, "v": "x", "d": 1}), 17)
     vector("version", "I and ??? are passed over", item({"I": 5, "???": NIL, **map}))
     vector("version", "identifier under I alone", item({"I": map}), 17)
@@ -604,9 +559,6 @@ def deletes():
     vector("delete", "bucket broken, ??? no text, 17 before 18", item({**broken, "???": 1}), 17)
     vector("delete", "bucket and ??? broken", item({**broken, "???": "x"}), 18)
     vector("delete", "d and I are passed over", item({**whole, "d": 5, "I": NIL}))
-    vector("delete", "repeated ???, wrong first", pairs(("???", 5), *whole.items()))
-    vector("delete", "repeated ???, wrong last", pairs(*whole.items(), ("???", 5)), 17)
-    vector("delete", "repeated ???, broken last", pairs(*whole.items(), ("???", "")), 18)
 
 
 BK, VR, VD = b"bk", b"vr", b"vd"
@@ -661,7 +613,6 @@ def records():
     read("no identifier, block", BK, item({"e": item({"I": "x"})}), 18)
     read("no bucket, version", VR, item({"e": item({**map, "b": ""})}), 18)
     read("no delete ULID, delete", VD, item({"e": item({**map, "???": ""})}), 18)
-    read("e twice", VR, pairs(("e", block), ("e", version)))
     read("text over the part", BK, item({"e": block, "x": HERD}))
 
 
@@ -718,10 +669,180 @@ def places():
     at("15", 0, record(VR, item({"e": b"", "z": 1})), 15)
     at("16 behind a version", second, version + record(VR, item({"e": b""})), 16)
     at("17 behind a version", second, version + record(VR, item({"e": b"\x80"})), 17)
+    header_twice = record(VR, pairs(("e", b""), ("e", b"")) + b"a")
+    at("22 of a header behind a version", second, version + header_twice, 22)
+    part = bytes(pairs(*map.items(), *map.items()))
+    at("22 of a part behind a version", second, version + record(VR, item({"e": part})), 22)
     at("18 behind a version", second, version + record(BK, item({"e": item({"I": ""})})), 18)
     outer = record(BK, item({"s": [{"l": len(version)}], "e": item({"I": HERD})}) + version)
     at("a record in a block's data", len(outer) - len(version), outer)
     at("the block around it", 0, outer)
+
+
+# ---- keys given twice
+
+# A map that is read: the kind of vector, which map of it, the number of a wrong type, the bytes
+# that its pairs make, the keys that must be there, and all its keys, each with a right value,
+# another, and one of a wrong type, if there is one.
+Map = namedtuple("Map", "kind where number made needed keys")
+NAMES = {"b": ("herd", "pen", NIL), "o": ("k", "j", 5), "v": (ULID, OTHER, b"v")}
+# A value of them breaks more rules, which come behind 22: 14 to 16, and 12 without its last byte.
+MAPS = [
+    Map(
+        "value",
+        "header",
+        11,
+        lambda *given: pairs(*given) + b"a",
+        ["e"],
+        {
+            "e": (b"", b"qq", "p"),
+            "s": ([{"l": 1}], [{"l": 1, "c": 7}], {"l": 1}),
+            "c": (1, 2, Raw(b"\xff")),
+            "z": (1, NIL, None),
+            "v": (1, 2, NIL),
+        },
+    ),
+    Map(
+        "value",
+        "map in s",
+        11,
+        lambda *given: pairs(("e", b""), ("v", 1), ("c", 1), ("s", [pairs(*given)])) + b"a",
+        ["l"],
+        {"l": (1, 2, "1"), "c": (1, 2, NIL), "z": (1, NIL, None)},
+    ),
+    Map("block", "part", 17, pairs, ["I"], {"I": (HERD, {"b": "b", "o": "o", "v": ULID}, 5)}),
+    Map("block", "map under I", 17, lambda *given: pairs(("I", pairs(*given))), [*NAMES], NAMES),
+    Map("version", "part", 17, pairs, [*NAMES], {**NAMES, "d": (True, False, NIL)}),
+    Map("delete", "part", 17, pairs, [*NAMES, "???"], {**NAMES, "???": (OTHER, ULID, 5)}),
+]
+READ = dict.fromkeys(key for map in MAPS for key in map.keys)
+# All of them in one map, twice each: nobody looks into it.
+TWICE = pairs(*[(key, 1) for key in READ] * 2)
+TOLD_OF = {"block": TOLD, "version": TOLD + " d 1", "delete": TOLD + " ? " + OTHER}
+
+
+def right(map):
+    return {key: given[0] for key, given in map.keys.items()}
+
+
+def twice():
+    for map in MAPS:
+        for key, (x, other, wrong) in map.keys.items():
+            name = "%s, %s twice, " % (map.where, key)
+            rest = [pair for pair in right(map).items() if pair[0] != key]
+            values = [("equal", x, x, 22), ("other first", other, x, 22)]
+            values.append(("other last", x, other, 22))
+            if wrong is not None:
+                values.append(("wrong first", wrong, x, 22))
+                values.append(("wrong last", x, wrong, map.number))
+                values.append(("both wrong", wrong, wrong, map.number))
+            forms = list(every_text(key.encode()))
+            # Two of the same form, and each form first and last.
+            two = [forms[:1] * 2, *zip(forms, forms[1:] + forms[:1])]
+            for (form, k), (again, l) in two:
+                for said, a, b, wanted in values:
+                    shown = "%s%s, %s and %s" % (name, said, form, again)
+                    vector(map.kind, shown, map.made((k, a), *rest, (l, b)), wanted)
+            pair = (key, x)
+            vector(map.kind, name + "before the others", map.made(pair, pair, *rest), 22)
+            vector(map.kind, name + "behind the others", map.made(*rest, pair, pair), 22)
+            vector(map.kind, name + "and again", map.made(pair, *rest, pair, pair), 22)
+
+
+def twice_in_order():
+    """22 behind the types of all maps, and before all else."""
+    for map in MAPS:
+        for key, x in right(map).items():
+            name = "%s, %s twice, " % (map.where, key)
+
+            def read(said, given, wanted, kind=map.kind, front=b"", cut=None):
+                made = map.made((key, x), *given.items())
+                vector(kind, name + said, front + made[:cut], wanted)
+
+            for other, (_, _, wrong) in map.keys.items():
+                if other != key and wrong is not None:
+                    read("%s wrong" % other, {**right(map), other: wrong}, map.number)
+            for other in map.needed:
+                if other != key:
+                    left = {k: y for k, y in right(map).items() if k != other}
+                    read("no %s" % other, left, map.number)
+                if map.kind != "value":
+                    read("%s broken" % other, {**right(map), other: ""}, 22)
+            if map.kind == "value":
+                read("not filled", right(map), 22, cut=-1)
+                for tag in (BK, VR, VD, b"C!", b"ol"):
+                    read(tag.decode(), right(map), 22, kind="record", front=tag)
+
+
+def twice_in_two_maps():
+    one, again = [{"l": 1}], [pairs(("l", 1), ("l", 1))]
+    e, names = ("e", b"p"), {"b": "herd", "o": "k", "v": ULID}
+    for name, given, wanted in [
+        ("c twice, c in s wrong", [("c", 1), e, ("s", [{"l": 1, "c": NIL}]), ("c", 1)], 11),
+        ("l in s twice, v wrong", [("s", again), e, ("v", NIL)], 11),
+        ("l in s twice, no e", [("s", again)], 11),
+        ("l twice in one map of two", [("s", again + one), e], 11),
+        ("e twice, l in s twice", [e, ("s", again), e], 22),
+        ("s twice, first wrong inside", [("s", [{"l": "x"}]), e, ("s", one)], 22),
+        ("s twice, last wrong inside", [("s", one), e, ("s", [{"l": "x"}])], 11),
+        ("s twice, first with l twice", [("s", again), e, ("s", one)], 22),
+        ("s twice, last empty", [("s", one), e, ("s", [])], 22),
+    ]:
+        vector("value", name, pairs(*given) + b"a", wanted)
+    again = pairs(("b", "herd"), *names.items())
+    for name, first, last, wanted in [
+        ("first wrong inside", {"b": 5}, HERD, 22),
+        ("last wrong inside", HERD, {**names, "b": 5}, 17),
+        ("last empty", names, {}, 17),
+        ("last broken", HERD, {**names, "v": "x"}, 22),
+        ("last broken text", names, "x", 22),
+        ("first with b twice", again, HERD, 22),
+        ("last with b twice", HERD, again, 22),
+    ]:
+        vector("block", "I twice, " + name, pairs(("I", first), ("I", last)), wanted)
+
+
+def records_with_parts_twice():
+    for tag, map in zip((BK, VR, VD), [MAPS[2], *MAPS[4:]]):
+        part = bytes(map.made(*right(map).items(), *right(map).items()))
+        name = "part with all keys twice, %s, " % tag.decode()
+        for said, front, value, wanted in [
+            ("22", tag, item({"e": part}), 22),
+            ("12 before", tag, item({"e": part}) + b"a", 12),
+            ("13 before", b"C!", item({"e": part}), 13),
+            ("14 before", tag, item({"e": part, "v": 1}), 14),
+            ("15 before", tag, item({"e": part, "z": NIL}), 15),
+            ("16 before", tag, item({"e": part + b"\x00"}), 16),
+        ]:
+            vector("record", name + said, front + value, wanted)
+
+
+def may_repeat():
+    unknown = [*ODD, ("", 1), ("x", 1), ("ee", 1), ("U", 1), (Raw(b"\xa1\xff"), 1)]
+    for map in MAPS:
+        given, told = right(map).items(), TOLD_OF.get(map.kind)
+        for key in READ:
+            if key not in map.keys:
+                name = "%s, %s twice, not read" % (map.where, key)
+                vector(map.kind, name, map.made((key, TWICE), *given, (key, NIL)), told)
+            else:
+                name = "%s, %s twice, as bytes" % (map.where, key)
+                pair = (key.encode(), 1)
+                vector(map.kind, name, map.made(pair, *given, pair), told)
+        for pair in unknown:
+            name = "%s, unknown %s twice" % (map.where, item(pair[0]).hex())
+            vector(map.kind, name, map.made(pair, *given, pair), told)
+
+
+def written_twice():
+    for write, map, other in [(write_version, MAPS[4], "???"), (write_delete, MAPS[5], "d")]:
+        given = right(map).items()
+        for key, values in map.keys.items():
+            for name, x in zip(("equal", "other", "wrong"), values):
+                write("%s twice, %s first" % (key, name), map.made((key, x), *given), 20)
+            write("%s twice, no room" % key, map.made((key, values[0]), *given), 20, room=0)
+        for key in (other, "I", "x"):
+            write("%s twice, not read" % key, map.made((key, TWICE), *given, (key, 5)))
 
 
 HELD = Held(ULID, "herd", "k")
@@ -909,9 +1030,15 @@ def main():
         deletes,
         records,
         places,
+        twice,
+        twice_in_order,
+        twice_in_two_maps,
+        records_with_parts_twice,
+        may_repeat,
         written_blocks,
         written_parts,
         written_deletes,
+        written_twice,
         not_admitted,
         rooms,
         written_packs,

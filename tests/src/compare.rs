@@ -77,17 +77,17 @@ pub enum Function {
 /// The numbers that each function can answer, 0 where it does not refuse.
 const NUMBERS: [(Function, &[usize]); 8] = [
     (Function::Scan, &[0, 1, 2, 3, 4, 5, 6, 7, 8, 19]),
-    (Function::Value, &[0, 9, 10, 11, 12, 19]),
+    (Function::Value, &[0, 9, 10, 11, 12, 19, 22]),
     (
         Function::Record,
         &[
-            0, 1, 2, 3, 4, 5, 6, 7, 8, 9, 10, 11, 12, 13, 14, 15, 16, 17, 18, 19, 20,
+            0, 1, 2, 3, 4, 5, 6, 7, 8, 9, 10, 11, 12, 13, 14, 15, 16, 17, 18, 19, 20, 22,
         ],
     ),
     (
         Function::Current,
         &[
-            0, 1, 2, 3, 4, 5, 6, 7, 8, 9, 10, 11, 12, 14, 15, 16, 17, 18, 19, 20,
+            0, 1, 2, 3, 4, 5, 6, 7, 8, 9, 10, 11, 12, 14, 15, 16, 17, 18, 19, 20, 22,
         ],
     ),
     (Function::WriteBlock, &[0, 19, 20]),
@@ -105,7 +105,7 @@ pub struct Compare {
     pub inputs: u64,
     pub calls: u64,
     /// How often each function gave each number.
-    met: [[u64; 21]; NUMBERS.len()],
+    met: [[u64; 23]; NUMBERS.len()],
 }
 
 impl Compare {

@@ -79,8 +79,7 @@ fn text_near(random: &mut Random, right: &[u8]) -> Tree {
 const UNKNOWN: [&str; 6] = ["", "E", "ee", "??", "????", "\0"];
 const KNOWN: [&str; 11] = ["e", "s", "c", "z", "v", "l", "b", "o", "d", "I", "???"];
 
-/// Pairs in an order by chance, with unknown keys between and earlier ones of the same key; seldom
-/// with a fault.
+/// Pairs in an order by chance, with unknown keys between, once or twice; seldom with a fault.
 fn any_map(random: &mut Random, mut pairs: Vec<(Tree, Tree)>) -> Tree {
     random.shuffle(&mut pairs);
     if random.fault_in(40) {
@@ -91,15 +90,18 @@ fn any_map(random: &mut Random, mut pairs: Vec<(Tree, Tree)>) -> Tree {
             true => lists(10 + random.below(10)),
             false => any_item(random, 3),
         };
-        let anywhere = random.below(pairs.len() + 1);
-        let (at, key) = match random.below(3) {
-            // Before the others it is only passed over.
-            0 if !pairs.is_empty() => (0, pairs[random.below(pairs.len())].0.clone()),
-            1 if random.faults => (anywhere, text(random.of(&KNOWN))),
-            1 => (anywhere, text(random.of(&UNKNOWN))),
-            _ => (anywhere, odd_key(random)),
+        let (key, times) = match random.below(3) {
+            0 if random.fault_in(4) && !pairs.is_empty() => {
+                (pairs[random.below(pairs.len())].0.clone(), 1)
+            }
+            1 if random.faults => (text(random.of(&KNOWN)), 1),
+            1 => (text(random.of(&UNKNOWN)), 1 + random.below(2)),
+            _ => (odd_key(random), 1 + random.below(2)),
         };
-        pairs.insert(at, (key, value));
+        for _ in 0..times {
+            let anywhere = random.below(pairs.len() + 1);
+            pairs.insert(anywhere, (key.clone(), value.clone()));
+        }
     }
     Tree::Map(pairs)
 }

@@ -24,7 +24,7 @@ toldWords t =
     ∷ t .version
     ∷ []
 
--- the answer, with so many words lent: refusals 9 to 12 come alone, and 19 after them
+-- the answer, with so many words lent: refusals 9 to 12, and 22, come alone, and 19 after them
 abbrev pub valueAnswer : Answer Told → ℕ → ℕ
 valueAnswer (result t) room = cond (leb 10 room) (answer 0 0) (answer 19 0)
 valueAnswer (refused n) room = answer n 0

@@ -122,7 +122,7 @@ unreadableFirst p (deletion i) next = next
 unreadableFirst p other next = next
 unreadableFirst p (unreadable n) next = refused n (p .start)
 
--- 9 to 12 and 14 to 18: the first record, in pack order, that cannot be read
+-- 9 to 12, 14 to 18 and 22: the first record, in pack order, that cannot be read
 unfoldable pub readability : List Placed → Ending
 readability [] = whole
 readability (p ∷ ps) = unreadableFirst p (p .role) (readability ps)

@@ -18,7 +18,8 @@ use Rattle.msgpack.specs.Formats.{formats, formatOf}
 use Rattle.msgpack.specs.Items.{headOf, passItems, passHead, passItem}
 use Rattle.msgpack.specs.Readers.{isWhole, contentAt, readBoolean, integerOf, readInteger, countAt}
 use Rattle.msgpack.specs.Lookup.{keyAt, lastWhere, lastValue}
-use Rattle.msgpack.specs.Views.{textAt, itemsFrom}
+use Rattle.msgpack.specs.Pairs.{timesWhere, timesOf}
+use Rattle.msgpack.specs.Views.{repeats, textAt, itemsFrom}
 use Rattle.identifier.specs.Texts.{member, all, less}
 use Rattle.identifier.specs.Ulid.{alphabet, isCharacter, isUlid}
 use Rattle.identifier.specs.Identity.{sized, isBucket, isObject, identity, isValid, identityOf, sameIdentity}
@@ -150,8 +151,8 @@ pub rows-hold : map (λ (r : Row). lookup packLimit (r .pack) (r .bucket) (r .ob
 unfolding rows layouts layout head fields bytesOf bigBytes littleBytes little big add mul rotl foldHigh lane taken round
     mergeAccumulator converge stripes consume8 consume4 consume1 consume avalanche xxh64 field headerRows valueRows
     lowest headerOf step records reading passItem passHead passItems headOf isWhole contentAt readBoolean integerOf
-    readInteger countAt keyAt sameBytes lastWhere lastValue itemsFrom formatOf formats numberAt holds
-    naturalUnder bytesUnder isThere value-header.alone value-header.telling withMap withList header value.reading fills textAt textUnder
+    readInteger countAt keyAt sameBytes lastWhere lastValue repeats timesOf timesWhere itemsFrom formatOf formats numberAt holds
+    naturalUnder bytesUnder isThere value-header.alone value-header.telling value-header.headerRepeats withMap withList header value.reading fills textAt textUnder
     textsUnder deletedUnder ulidOf primary.version primary.versionDelete isUlid isCharacter alphabet isBucket isObject
     isValid identityOf sized member all isKnown contents toldRows readRecord isLookedAt role less hasName sameIdentity
     versionOf filtered better best deletes isDeleted isLive current readability answerIn isName lookup

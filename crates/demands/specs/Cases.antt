@@ -18,9 +18,10 @@ use Rattle.msgpack.specs.Formats.{formats, formatOf}
 use Rattle.msgpack.specs.Items.{headOf, passItems, passHead, passItem}
 use Rattle.msgpack.specs.Readers.{isWhole, contentAt, integerOf, readInteger, countAt}
 use Rattle.msgpack.specs.Lookup.{keyAt, lastWhere, lastValue}
-use Rattle.msgpack.specs.Views.{itemsFrom}
+use Rattle.msgpack.specs.Pairs.{timesWhere, timesOf}
+use Rattle.msgpack.specs.Views.{repeats, itemsFrom}
 use Rattle.value.specs.Fields.{naturalUnder, bytesUnder, isThere}
-use Rattle.value.specs.Header.{coding, part, alone, telling, withMap, withList, header}
+use Rattle.value.specs.Header.{coding, part, alone, telling, headerRepeats, withMap, withList, header}
 use Rattle.value.specs.Reading as value
 use Rattle.value.specs.declared.Told.{Told}
 
@@ -110,11 +111,13 @@ cases =
     -- N: lists of depth 16 and 17
     ∷ valueCase (nested 15) (refusals.refused 11)
     ∷ valueCase (nested 16) (refusals.refused 10)
+    -- request 4: {e, s: [{l, l}]}
+    ∷ valueCase (0x82 ∷ 0xa1 ∷ 0x65 ∷ 0xc4 ∷ 0 ∷ 0xa1 ∷ 0x73 ∷ 0x91 ∷ 0x82 ∷ 0xa1 ∷ 0x6c ∷ 0 ∷ 0xa1 ∷ 0x6c ∷ 0 ∷ []) (refusals.refused 22)
     ∷ []
 
 pub cases-hold : map (λ (c : Case). answer (c .asked) (c .bytes)) cases ≡ map (λ (c : Case). c .answered) cases
 unfolding little big add mul rotl foldHigh lane taken round mergeAccumulator converge stripes consume8 consume4 consume1
     consume avalanche xxh64 field headerRows valueRows lowest headerOf step pack.records pack.reading passItem passHead
-    passItems headOf isWhole contentAt integerOf readInteger countAt keyAt sameBytes lastWhere lastValue itemsFrom formatOf
-    formats numberAt holds naturalUnder bytesUnder isThere alone telling withMap withList header value.reading
+    passItems headOf isWhole contentAt integerOf readInteger countAt keyAt sameBytes lastWhere lastValue repeats timesOf timesWhere itemsFrom formatOf
+    formats numberAt holds naturalUnder bytesUnder isThere alone telling headerRepeats withMap withList header value.reading
 cases-hold = refl

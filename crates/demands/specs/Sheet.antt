@@ -1,4 +1,4 @@
--- "Can be read" is what the refusal sheet says: a `vr` or `vd` record can be read exactly when none of 9 to 12 and 14 to 18 applies to it.
+-- "Can be read" is what the refusal sheet says: a `vr` or `vd` record can be read exactly when none of 9 to 12, 14 to 18 and 22 applies to it.
 use Prim.Native.Nat.{ℕ, _+_}
 use mathlib.Core.Bool.{Bool, true, false, cond, not, _||_}
 use mathlib.Core.List.{List}
@@ -11,16 +11,16 @@ use lib.Dec.{eqb}
 use lib.ListN.{length, take}
 use Rattle.slices.specs.Logic.{absurd-numbers}
 use Rattle.refusals.specs.Sheet.{lowest}
-use Rattle.refusals.specs.Answers.{Answer, refused, result, orRefused, unless}
+use Rattle.refusals.specs.Answers.{Answer, refused, result, orRefused, ifOnce, unless}
 use Rattle.msgpack.specs.Items.{Passage, whole, cut, tooDeep, passOver}
-use Rattle.msgpack.specs.Views.{byteView}
+use Rattle.msgpack.specs.Views.{repeats, byteView}
 use Rattle.identifier.specs.Ulid.{isUlid}
 use Rattle.identifier.specs.Identity.{Identity, isValid, identityOf}
-use Rattle.value.specs.Header.{header, tellingOf}
+use Rattle.value.specs.Header.{headerRepeats, tested, header, tellingOf}
 use Rattle.value.specs.Reading as value
 use Rattle.value.specs.declared.Told.{Told}
 use Rattle.primary.specs.Parts as primary
-use Rattle.primary.specs.Parts.{fills, textUnder, textsUnder, deletedUnder, deleteIdKey, valid, ulidOf, versionBy, versionDeleteBy}
+use Rattle.primary.specs.Parts.{fills, versionKeys, versionDeleteKeys, textUnder, textsUnder, deletedUnder, deleteIdKey, valid, ulidOf, versionBy, versionDeleteBy}
 use Rattle.primary.specs.Exactly.{version-names, delete-names}
 use Rattle.records.specs.Record.{versionTag, versionDeleteTag, isKnown, Contents, ofVersion, ofVersionDelete, contents, Record, toldRows, primaryIn, withTold, byValue, readRecord, canBeRead}
 use Rattle.records.specs.Laws.{ReadAs, read-as, can-be-read, the-record}
@@ -28,20 +28,23 @@ use Rattle.current_version.specs.Current.{isLookedAt}
 
 -- ---- the rows
 
--- 16 to 18, of a primary part
+-- 16 to 18, and 22, of a primary part
 pub data PartApplies (tag : ℕ) (part : List ℕ) : ℕ → Type 0 where
   part-not-filled : fills part ≡ false → PartApplies tag part 16
   no-identifier : textsUnder byteView part ≡ none → PartApplies tag part 17
   no-boolean : tag ≡ versionTag → deletedUnder byteView part ≡ none → PartApplies tag part 17
   no-delete-identifier : tag ≡ versionDeleteTag → textUnder byteView deleteIdKey part ≡ none → PartApplies tag part 17
+  version-key-repeats : tag ≡ versionTag → repeats byteView versionKeys part ≡ true → PartApplies tag part 22
+  delete-key-repeats : tag ≡ versionDeleteTag → repeats byteView versionDeleteKeys part ≡ true → PartApplies tag part 22
   identifier-breaks-rules : (i : Identity) → textsUnder byteView part ≡ some i → isValid i ≡ false → PartApplies tag part 18
   delete-identifier-breaks-rules : tag ≡ versionDeleteTag → (t : List ℕ) → textUnder byteView deleteIdKey part ≡ some t → isUlid t ≡ false → PartApplies tag part 18
 
--- 9 to 12 of a value; 14 to 18 where none of these applies, so that the value tells t
+-- 9 to 12, and 22, of a value; 14 to 18, and 22 of the primary part, where none of these applies, so that the value tells t
 pub data Applies (limit tag : ℕ) (s : List ℕ) : ℕ → Type 0 where
   no-whole-item : passOver s ≡ cut → Applies limit tag s 9
   depth-17 : passOver s ≡ tooDeep → Applies limit tag s 10
   header-not-described : (n : ℕ) → passOver s ≡ whole n → header limit (take n s) ≡ none → Applies limit tag s 11
+  header-key-repeats : (n : ℕ) → passOver s ≡ whole n → headerRepeats byteView (take n s) ≡ true → Applies limit tag s 22
   value-not-filled : (n : ℕ) (t : Told) → passOver s ≡ whole n → header limit (take n s) ≡ some t
       → (n + t .secondary .len ≡ length s → ⊥) → Applies limit tag s 12
   version-not-0 : (t : Told) → value.reading limit s ≡ result t → (t .version ≡ 0 → ⊥) → Applies limit tag s 14
@@ -57,6 +60,11 @@ module _ {A B P : Type 0} where
       → ((a : A) → o ≡ some a → next a ≡ refused n → P) → P
   step number n none next e here later = here (cc) refl
   step number n (some a) next e here later = later a refl e
+
+once : {B P : Type 0} (n : ℕ) (repeated : Bool) (next : Answer B) → ifOnce repeated next ≡ refused n → (22 ≡ n → repeated ≡ true → P)
+    → (next ≡ refused n → P) → P
+once n true next e here later = here (cc) refl
+once n false next e here later = later e
 
 valid-none : (i : Identity) → valid i ≡ none → isValid i ≡ false
 unfolding identityOf
@@ -88,17 +96,19 @@ module _ (tag : ℕ) (part : List ℕ) (n : ℕ) where
   version-refused : tag ≡ versionTag → primary.version part ≡ refused n → At n
   unfolding primary.version
   version-refused is e =
-      filled (versionBy (textsUnder byteView part) (deletedUnder byteView part)) e λ f.
+      filled (versionBy (textsUnder byteView part) (deletedUnder byteView part) (repeats byteView versionKeys part)) e λ f.
       step 17 n (textsUnder byteView part) _ f (λ m p. subst At m (no-identifier p)) λ i p g.
-      step 17 n (deletedUnder byteView part) _ g (λ m q. subst At m (no-boolean is q)) λ d q h.
+      step 17 n (deletedUnder byteView part) _ g (λ m q. subst At m (no-boolean is q)) λ d q o.
+      once n (repeats byteView versionKeys part) _ o (λ m r. subst At m (version-key-repeats is r)) λ h.
       step 18 n (valid i) _ h (λ m r. subst At m (identifier-breaks-rules i p (valid-none i r))) λ j r k. absurd-numbers (cc)
 
   delete-refused : tag ≡ versionDeleteTag → primary.versionDelete part ≡ refused n → At n
   unfolding primary.versionDelete
   delete-refused is e =
-      filled (versionDeleteBy (textsUnder byteView part) (textUnder byteView deleteIdKey part)) e λ f.
+      filled (versionDeleteBy (textsUnder byteView part) (textUnder byteView deleteIdKey part) (repeats byteView versionDeleteKeys part)) e λ f.
       step 17 n (textsUnder byteView part) _ f (λ m p. subst At m (no-identifier p)) λ i p g.
-      step 17 n (textUnder byteView deleteIdKey part) _ g (λ m q. subst At m (no-delete-identifier is q)) λ t q h.
+      step 17 n (textUnder byteView deleteIdKey part) _ g (λ m q. subst At m (no-delete-identifier is q)) λ t q o.
+      once n (repeats byteView versionDeleteKeys part) _ o (λ m r. subst At m (delete-key-repeats is r)) λ h.
       step 18 n (valid i) _ h (λ m r. subst At m (identifier-breaks-rules i p (valid-none i r))) λ j r k.
       step 18 n (ulidOf t) _ k (λ m u. subst At m (delete-identifier-breaks-rules is t q (ulid-none t u))) λ v u l. absurd-numbers (cc)
 
@@ -148,12 +158,14 @@ module _ (limit tag : ℕ) (s : List ℕ) (n : ℕ) where
       filling k t p h true q f = absurd-numbers (cc)
       filling k t p h false q f = subst Here (cc) (value-not-filled k t p h (eqb-false _ _ q))
 
-      described : (k : ℕ) → passOver s ≡ whole k → (o : Option Told) → header limit (take k s) ≡ o → value.filled k s o ≡ refused n → Here n
-      described k p (some t) h f = filling k t p h (eqb (k + t .secondary .len) (length s)) refl f
-      described k p none h f = subst Here (cc) (header-not-described k p h)
+      described : (k : ℕ) → passOver s ≡ whole k → (r : Bool) → headerRepeats byteView (take k s) ≡ r → (o : Option Told) → header limit (take k s) ≡ o
+          → value.filled k s (tested r o) ≡ refused n → Here n
+      described k p false r (some t) h f = filling k t p h (eqb (k + t .secondary .len) (length s)) refl f
+      described k p true r (some t) h f = subst Here (cc) (header-key-repeats k p r)
+      described k p b r none h f = subst Here (cc) (header-not-described k p h)
 
       by : (p : Passage) → passOver s ≡ p → value.byItem limit s p ≡ refused n → Here n
-      by (whole k) p f = described k p (header limit (take k s)) refl f
+      by (whole k) p f = described k p (headerRepeats byteView (take k s)) refl (header limit (take k s)) refl f
       by cut p f = subst Here (cc) (no-whole-item p)
       by tooDeep p f = subst Here (cc) (depth-17 p)
 
@@ -201,6 +213,8 @@ version-read tag part v is e (part-not-filled w) = let h = version-names part v 
 version-read tag part v is e (no-identifier t) = let h = version-names part v e in absurd-numbers (cc)
 version-read tag part v is e (no-boolean k d) = let h = version-names part v e in absurd-numbers (cc)
 version-read tag part v is e (no-delete-identifier k t) = omega arith
+version-read tag part v is e (version-key-repeats k r) = let h = version-names part v e in absurd-numbers (cc)
+version-read tag part v is e (delete-key-repeats k r) = omega arith
 version-read tag part v is e (identifier-breaks-rules i t r) = let h = version-names part v e in absurd-numbers (cc)
 version-read tag part v is e (delete-identifier-breaks-rules k t q r) = omega arith
 
@@ -210,6 +224,8 @@ delete-read tag part v is e (part-not-filled w) = let h = delete-names part v e 
 delete-read tag part v is e (no-identifier t) = let h = delete-names part v e in absurd-numbers (cc)
 delete-read tag part v is e (no-boolean k d) = omega arith
 delete-read tag part v is e (no-delete-identifier k t) = let h = delete-names part v e in absurd-numbers (cc)
+delete-read tag part v is e (version-key-repeats k r) = omega arith
+delete-read tag part v is e (delete-key-repeats k r) = let h = delete-names part v e in absurd-numbers (cc)
 delete-read tag part v is e (identifier-breaks-rules i t r) = let h = delete-names part v e in absurd-numbers (cc)
 delete-read tag part v is e (delete-identifier-breaks-rules k t q r) = let h = delete-names part v e in absurd-numbers (cc)
 
@@ -231,12 +247,21 @@ part-read tag part c n looked e a =
 same-told : {a : Answer Told} {t u : Told} → a ≡ result t → a ≡ result u → t ≡ u
 same-told e f = cc
 
+not-read : (n : ℕ) (s : List ℕ) (o : Option Told) (t : Told) → value.filled n s (tested true o) ≡ result t → ⊥
+not-read n s (some u) t e = absurd-numbers (cc)
+not-read n s none t e = absurd-numbers (cc)
+
+not-filled : (n : ℕ) (s : List ℕ) (repeated : Bool) (t u : Told) → (n + t .secondary .len ≡ length s → ⊥) → value.filled n s (tested repeated (some t)) ≡ result u → ⊥
+not-filled n s true t u d e = absurd-numbers (cc)
+not-filled n s false t u d e = let f = rw (ne-eqb _ _ d) at e in absurd-numbers (cc)
+
 none-applies : (limit tag : ℕ) (s : List ℕ) (r : Record) {n : ℕ} → isLookedAt tag ≡ true → ReadAs limit tag s r → Applies limit tag s n → ⊥
 unfolding value.reading
 none-applies limit tag s r looked a (no-whole-item p) = let f = rw p at (a .value-tells) in absurd-numbers (cc)
 none-applies limit tag s r looked a (depth-17 p) = let f = rw p at (a .value-tells) in absurd-numbers (cc)
 none-applies limit tag s r looked a (header-not-described n p h) = let f = rw (p, h) at (a .value-tells) in absurd-numbers (cc)
-none-applies limit tag s r looked a (value-not-filled n t p h d) = let f = rw (p, h, ne-eqb _ _ d) at (a .value-tells) in absurd-numbers (cc)
+none-applies limit tag s r looked a (header-key-repeats n p h) = not-read n s (header limit (take n s)) (r .told) (rw (p, h) at (a .value-tells))
+none-applies limit tag s r looked a (value-not-filled n t p h d) = not-filled n s (headerRepeats byteView (take n s)) t (r .told) d (rw (p, h) at (a .value-tells))
 none-applies limit tag s r looked a (version-not-0 t w d) = d (ap (λ (u : Told). u .version) (same-told w (a .value-tells)) ∙ a .version)
 none-applies limit tag s r looked a (encrypted t w d) = let same = same-told w (a .value-tells) in absurd-numbers (cc)
 none-applies limit tag s r looked a (compressed t w d) = d (ap (λ (u : Told). u .primary .compression) (same-told w (a .value-tells)) ∙ a .not-compressed)

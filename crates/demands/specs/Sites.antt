@@ -14,7 +14,6 @@ use Rattle.records.specs.Record as records
 use Rattle.records.specs.Record.{AtPlace, there, refusedAt, alone, atPlace, recordAt}
 use Rattle.records.specs.Laws.{tag-and-value}
 use Rattle.records_model.specs.Alike.{Alike}
-use Rattle.records_model.specs.NoRepeats.{NoRepeats}
 use Rattle.records_model.specs.Record.{RecordHeld, recordIn}
 use Rattle.records_model.specs.AnswersAlike.{AnswersAlike, SameRecord}
 use Rattle.records_model.specs.TwoSites.{records-alike}
@@ -23,7 +22,7 @@ use Rattle.records_model.specs.TwoSites.{records-alike}
 pub data AlikeRecords : List Record → List Record → Type 0 where
   no-records : AlikeRecords [] []
   next : {v w : Value} {e f : List ℕ} {rs qs : List Record} (tag spare other : ℕ) (secondary : List ℕ) → Encodes v e → Encodes w f
-      → Alike v w → NoRepeats tag v → AlikeRecords rs qs
+      → Alike v w → AlikeRecords rs qs
       → AlikeRecords (record { spare = spare; tag = tag; value = e ++ secondary } ∷ rs) (record { spare = other; tag = tag; value = f ++ secondary } ∷ qs)
 
 -- what is told of the record at a place, with no places
@@ -50,7 +49,7 @@ module _ (limit : ℕ) where
       → AllAnswersAlike limit (front ++ layouts rs) (other ++ layouts qs) (entriesOf (length front) rs) (entriesOf (length other) qs)
   unfolding layouts entriesOf
   alike-behind no-records fit fits front other l m = no-entries
-  alike-behind (next {e = e} {f = f} {rs = rs} {qs = qs} tag spare spare′ secondary x y z h more) fit fits front other l m =
+  alike-behind (next {e = e} {f = f} {rs = rs} {qs = qs} tag spare spare′ secondary x y z more) fit fits front other l m =
       let r : Record = record { spare = spare; tag = tag; value = e ++ secondary } in
       let q : Record = record { spare = spare′; tag = tag; value = f ++ secondary } in
       let s : (front ++ layout r) ++ layouts rs ≡ front ++ (layout r ++ layouts rs) = append-assoc front (layout r) (layouts rs) in
@@ -65,7 +64,7 @@ module _ (limit : ℕ) where
             (e ++ secondary),
         held-at-place (f ++ secondary),
       )
-      (records-alike limit tag x y z h secondary) in
+      (records-alike limit tag x y z secondary) in
       let later : AllAnswersAlike limit (front ++ (layout r ++ layouts rs)) (other ++ (layout q ++ layouts qs))
       (entriesOf (length front + length (layout r)) rs) (entriesOf (length other + length (layout q)) qs)
       =

@@ -18,9 +18,9 @@ use Rattle.msgpack.specs.Formats.{unusedKind, textKind, arrayKind, mapKi
 use Rattle.msgpack.specs.Items.{Head, Passage, whole, tooDeep, headBy, headOf, itemsOf, beyond, passItems, passItem, depthAllowed, passOver}
 use Rattle.msgpack.specs.Readers.{isWhole, part, contentAt}
 use Rattle.msgpack.specs.Lookup.{ValuePlace, found, missing, broken, contentIs, keyAt, lastWhere, lastValue}
-use Rattle.msgpack.specs.Pairs.{insideAllowed}
+use Rattle.msgpack.specs.Pairs.{insideAllowed, timesWhere, timesOf}
 use Rattle.msgpack.specs.HeadLaws.{number-read}
-use Rattle.msgpack.specs.PassingLaws.{head-within, flat-whole, within-container, map-passed, beyond-whole, joined, pair-joined, Whole, container, flat, head-whole, bounded, deeper}
+use Rattle.msgpack.specs.PassingLaws.{head-within, flat-whole, within-container, map-passed, Beyond, beyond-whole, joined, pair-joined, Whole, container, flat, head-whole, bounded, deeper}
 
 -- what a front leaves, once k elements are passed
 drop-front : {A : Type 0} (k m : ℕ) (s : List A) → drop k (take m s) ≡ take (m - k) (drop k s)
@@ -154,6 +154,11 @@ item-head : (s : List ℕ) (n : ℕ) → passOver s ≡ whole n → headOf s ≡
 unfolding passItem
 item-head s n p = whole-head _ s n n (head-whole _ _ s n p) (omega arith) (bounded depthAllowed s n p .within)
 
+-- the pairs of a whole map
+map-whole : (s : List ℕ) (n : ℕ) → passOver s ≡ whole n → eqb (headOf s .kind) mapKind ≡ true
+    → Beyond (headOf s .size) (passItems (passItem insideAllowed) (headOf s .count + headOf s .count) (drop (headOf s .size) s)) n
+map-whole s n p e = beyond-whole (headOf s .size) _ n (map-passed insideAllowed s (eqb-true _ _ e) ∙ p)
+
 pub value-front : (key s : List ℕ) (n : ℕ) → passOver s ≡ whole n → lastValue key (take n s) ≡ lastValue key s
 unfolding lastValue
 value-front key s n p = rw (← item-head s n p, drop-front) (by (eqb (headOf s .kind) mapKind) refl)
@@ -163,10 +168,51 @@ value-front key s n p = rw (← item-head s n p, drop-front) (by (eqb (headOf s 
         (take (n - headOf s .size) (drop (headOf s .size) s)) missing) broken
         ≡ cond t (lastWhere (passItem depthAllowed) (keyAt key) (headOf s .count) (headOf s .size) (drop (headOf s .size) s) missing) broken
     by true e =
-        let x = beyond-whole (headOf s .size) (passItems (passItem insideAllowed) (headOf s .count + headOf s .count) (drop (headOf s .size) s)) n
-        (map-passed insideAllowed s (eqb-true _ _ e) ∙ p) in
+        let x = map-whole s n p e in
         let within = bounded depthAllowed s n p .within in
         let l = length-drop (headOf s .size) s in
         pairs-front key (headOf s .count) (headOf s .size) (drop (headOf s .size) s) missing (x .after) (n - headOf s .size) (x .rest)
         (omega (arith, x .total)) (omega arith)
+    by false e = refl
+
+-- ---- how often a key stands in a map
+
+counted-front : (key : List ℕ) (count : ℕ) (s : List ℕ) (n m : ℕ) → passItems (passItem insideAllowed) (count + count) s ≡ whole n → n ≤ m → m ≤ length s
+    → timesWhere (passItem depthAllowed) (keyAt key) count (take m s) ≡ timesWhere (passItem depthAllowed) (keyAt key) count s
+unfolding timesWhere
+counted-front key zero s n m p h within = refl
+counted-front key (suc count) s n m p h within =
+    let x = pair-joined (passItem insideAllowed) count s n p in
+    let k = x .key in
+    let v = x .value in
+    let key-whole = deeper insideAllowed s k (x .key-whole) in
+    let value-whole = deeper insideAllowed (drop k s) v (x .value-whole) in
+    let l = length-drop k s in
+    let r = length-drop (k + v) s in
+    let t = x .total in
+    rw (
+      key-whole,
+      item-front depthAllowed s k m key-whole (omega arith) within,
+      drop-front k m s,
+      value-whole,
+      item-front depthAllowed (drop k s) v (m - k) value-whole (omega arith) (omega arith),
+      drop-front (k + v) m s,
+      key-front key s m within insideAllowed k (x .key-whole) (omega arith),
+      counted-front key count (drop (k + v) s) (x .after) (m - (k + v)) (x .rest) (omega arith) (omega arith),
+    )
+
+pub times-front : (key s : List ℕ) (n : ℕ) → passOver s ≡ whole n → timesOf key (take n s) ≡ timesOf key s
+unfolding timesOf
+times-front key s n p =
+    let within = bounded depthAllowed s n p .within in
+    rw (p, item-front depthAllowed s n n p (omega arith) within, ← item-head s n p, drop-front) (by (eqb (headOf s .kind) mapKind) refl)
+  where
+    by : (t : Bool) → eqb (headOf s .kind) mapKind ≡ t
+        → cond t (timesWhere (passItem depthAllowed) (keyAt key) (headOf s .count) (take (n - headOf s .size) (drop (headOf s .size) s))) 0
+        ≡ cond t (timesWhere (passItem depthAllowed) (keyAt key) (headOf s .count) (drop (headOf s .size) s)) 0
+    by true e =
+        let x = map-whole s n p e in
+        let within = bounded depthAllowed s n p .within in
+        let l = length-drop (headOf s .size) s in
+        counted-front key (headOf s .count) (drop (headOf s .size) s) (x .after) (n - headOf s .size) (x .rest) (omega (arith, x .total)) (omega arith)
     by false e = refl

@@ -1,15 +1,20 @@
 -- What is seen of an item: of what type it is, what items an array has, and what stands under a key of a map, and how often. Rules for maps are
 -- said over a view, once; bytes have a view here, and values one in crate msgpack_model.
-use Prim.Native.Nat.{ℕ, zero, suc}
-use mathlib.Core.Bool.{Bool}
+use Prim.Native.Nat.{ℕ, zero, suc, _+_}
+use mathlib.Core.Bool.{Bool, true, false, cond, _&&_, _||_}
 use mathlib.Core.List.{List, [], _∷_}
 use mathlib.Core.Option.{Option, none, some}
 use mathlib.Core.Path.{_≡_, refl}
-use lib.ListN.{drop}
-use Rattle.msgpack.specs.Items.{Passage, whole, cut, tooDeep, passOver}
-use Rattle.msgpack.specs.Readers.{Int, readInteger, readBoolean, contentOfPart, readText, Counted, readArray}
-use Rattle.msgpack.specs.Lookup.{Under, found, missing, broken, lastValue, atPlace}
-use Rattle.msgpack.specs.Pairs.{timesOf}
+use native.Mathlib.Omega.{arith}
+use borrow.Author.Tests.{ne-eqb, eqb-true}
+use lib.Dec.{ltb, leb, eqb}
+use lib.ListN.{length, drop}
+use Rattle.slices.specs.Logic.{absurd-numbers, neither-so}
+use Rattle.msgpack.specs.Formats.{textKind, mapKind}
+use Rattle.msgpack.specs.Items.{Passage, whole, cut, tooDeep, headOf, passItem, depthAllowed, passOver}
+use Rattle.msgpack.specs.Readers.{Int, readInteger, readBoolean, isWhole, part, contentAt, contentOfPart, readText, Counted, readArray}
+use Rattle.msgpack.specs.Lookup.{Under, found, missing, broken, keyAt, lastValue, atPlace}
+use Rattle.msgpack.specs.Pairs.{ifCounted, timesWhere, timesOf}
 
 pub record View (I : Type 0) : Type 0 where
   pub integer : I → Option Int
@@ -18,6 +23,11 @@ pub record View (I : Type 0) : Type 0 where
   pub items : I → Option (List I)
   pub under : List ℕ → I → Under I  -- the last value of the text
   pub times : List ℕ → I → ℕ  -- how often the text stands as a key
+
+-- whether one of these keys stands more than once in the map m
+unfoldable pub repeats : {I : Type 0} → View I → List (List ℕ) → I → Bool
+repeats view [] m = false
+repeats view (key ∷ keys) m = ltb 1 (view .times key m) || repeats view keys m
 
 -- ---- bytes: the item at the front of a list
 
@@ -61,6 +71,23 @@ read-front absent read s (found p) = refl
 read-front absent read s missing = refl
 read-front absent read s broken = refl
 
+-- a text has no keys
+pub text-times : (key s t : List ℕ) → some t ≡ textAt s → timesOf key s ≡ 0
+unfolding textAt contentAt isWhole timesOf
+text-times key s t e = by (eqb (headOf s .kind) textKind) refl e
+  where
+    count : (p : Passage) → (eqb (headOf s .kind) mapKind ≡ false)
+        → (ifCounted p λ n. cond (eqb (headOf s .kind) mapKind) (timesWhere (passItem depthAllowed) (keyAt key) (headOf s .count) (drop (headOf s .size) s)) 0) ≡ 0
+    count (whole n) m = rw m
+    count cut m = refl
+    count tooDeep m = refl
+
+    by : (b : Bool) → eqb (headOf s .kind) textKind ≡ b
+        → some t ≡ contentOfPart s (cond (b && leb (headOf s .size + headOf s .count) (length s)) (some (part (headOf s .size) (headOf s .count))) none)
+        → timesOf key s ≡ 0
+    by true k q = count (passOver s) (ne-eqb (headOf s .kind) mapKind (λ (m : headOf s .kind ≡ mapKind). omega (arith, eqb-true (headOf s .kind) textKind k)))
+    by false k q = absurd-numbers (cc)
+
 -- ---- two views in which related items are seen alike
 
 -- both are there and related, or neither is
@@ -82,8 +109,24 @@ pub record SeenAlike {I J : Type 0} (v : View I) (w : View J) (R : I → J → T
   pub boolean : {i : I} {j : J} → R i j → v .boolean i ≡ w .boolean j
   pub text : {i : I} {j : J} → R i j → v .text i ≡ w .text j
   pub items : {i : I} {j : J} → R i j → Both (Each R) (v .items i) (w .items j)
+  pub times : (key : List ℕ) {i : I} {j : J} → R i j → v .times key i ≡ w .times key j
+  pub under : (key : List ℕ) {i : I} {j : J} → R i j → ltb 1 (v .times key i) ≡ false → SameUnder R (v .under key i) (w .under key j)
 
 -- related items stand under each of these keys
 abbrev pub SameKeys : {I J : Type 0} → View I → View J → (I → J → Type 0) → List (List ℕ) → I → J → Type 0
 SameKeys v w R [] i j = Unit
 SameKeys v w R (key ∷ keys) i j = SameUnder R (v .under key i) (w .under key j) × SameKeys v w R keys i j
+
+module _ {I J : Type 0} (v : View I) (w : View J) (R : I → J → Type 0) (alike : SeenAlike v w R) where
+  pub repeats-alike : (keys : List (List ℕ)) {i : I} {j : J} → R i j → repeats v keys i ≡ repeats w keys j
+  unfolding repeats
+  repeats-alike [] r = refl
+  repeats-alike (key ∷ keys) r = rw (alike .times key r, repeats-alike keys r)
+
+  -- keys that do not repeat
+  pub once-alike : (keys : List (List ℕ)) {i : I} {j : J} → R i j → repeats v keys i ≡ false → SameKeys v w R keys i j
+  unfolding repeats
+  once-alike [] r e = tt
+  once-alike (key ∷ keys) {i} r e =
+      let n = neither-so (ltb 1 (v .times key i)) (repeats v keys i) e in
+      (alike .under key r (n .0), once-alike keys r (n .1))

@@ -1,4 +1,5 @@
--- The last value of a key is the one that the map's value has; and where the key does not repeat, the order of pairs plays no part.
+-- The last value of a key is the one that the map's value has, and the key stands as often as in it; and where the key does not repeat, the
+-- order of pairs plays no part.
 use Prim.Native.Nat.{ℕ, suc, _+_, _≤_}
 use mathlib.Core.Bool.{Bool, true, false, cond}
 use mathlib.Core.List.{List, _++_, append-assoc}
@@ -13,6 +14,7 @@ use Rattle.msgpack.specs.Formats.{mapKind}
 use Rattle.msgpack.specs.Items.{headOf, passItem, depthAllowed}
 use Rattle.msgpack.specs.Readers.{Part, contentOfPart, readText}
 use Rattle.msgpack.specs.Lookup.{contentIs, keyAt, ValuePlace, found, missing, broken, lastWhere, lastValue}
+use Rattle.msgpack.specs.Pairs.{timesWhere, timesOf}
 use Rattle.msgpack_model.specs.Values.{Value, Map, Pairs, no-pairs, pair, countPairs, depth, pairsDepth, asText, asMap}
 use Rattle.msgpack_model.specs.Encoding.{MapHead, Encodes, scalar, array, map, EncodesPairs, no-pair, next-pair}
 use Rattle.msgpack_model.specs.Heads.{scalar-flat, array-begins, map-begins}
@@ -108,6 +110,51 @@ last-value key (scalar {e = e} x) d rest =
 last-value key (array {h = h} {e = e} x xs) d rest = not-map (rw (append-assoc h e rest, array-begins x (e ++ rest)))
 last-value key (map {ps = ps} {h = h} {e = e} x xs) d rest = in-map (map-found key ps h e x xs (omega arith) rest)
 
+-- ---- how often a key stands in a map
+
+-- how often the text stands as a key
+abbrev pub timesKey : List ℕ → Pairs → ℕ
+timesKey key no-pairs = 0
+timesKey key (pair k v ps) = cond (keyIs key k) 1 0 + timesKey key ps
+
+-- 0 where there is no map
+abbrev pub timesIn : List ℕ → Option Pairs → ℕ
+timesIn key (some ps) = timesKey key ps
+timesIn key nothing = 0
+
+pairs-counted : (a : ℕ) (key : List ℕ) {ps : Pairs} {e : List ℕ} → EncodesPairs ps e → pairsDepth ps ≤ a → (rest : List ℕ)
+    → timesWhere (passItem a) (keyAt key) (countPairs ps) (e ++ rest) ≡ timesKey key ps
+unfolding timesWhere
+pairs-counted a key no-pair d rest = refl
+pairs-counted a key (next-pair {e = e} {f = f} {g = g} x z xs) d rest =
+    let t : List ℕ = g ++ rest in
+    let joined : (e ++ (f ++ g)) ++ rest ≡ e ++ (f ++ (g ++ rest)) = simp append-assoc in
+    let tail : drop (length e + length f) (e ++ (f ++ t)) ≡ t = drop-append-add e (f ++ t) (length f) ∙ drop-append-seam f t in
+    rw (
+      joined,
+      complete x a (omega arith) (f ++ t),
+      drop-append-seam e (f ++ t),
+      complete z a (omega arith) t,
+      tail,
+      key-reads key x (f ++ t),
+      pairs-counted a key xs (omega arith) rest,
+    )
+
+pub times-read : (key : List ℕ) {v : Value} {e : List ℕ} → Encodes v e → depth v ≤ depthAllowed → (rest : List ℕ) → timesOf key (e ++ rest) ≡ timesIn key (asMap v)
+unfolding timesOf
+times-read key (scalar {e = e} x) d rest =
+    let f = flat-front (scalar-flat x) rest in
+    rw (
+      complete (scalar x) depthAllowed d rest,
+      scalar-no-map x,
+      ne-eqb (headOf (e ++ rest) .kind) mapKind (λ (k : headOf (e ++ rest) .kind ≡ mapKind). omega (arith, f .holds-none)),
+    )
+times-read key (array {h = h} {e = e} x xs) d rest = rw (complete (array x xs) depthAllowed d rest, append-assoc h e rest, array-begins x (e ++ rest))
+times-read key (map {h = h} {e = e} x xs) d rest =
+    let behind : drop (length h) ((h ++ e) ++ rest) ≡ e ++ rest = rw (append-assoc h e rest, drop-append-seam h (e ++ rest)) in
+    let top = rw (← append-assoc h e rest) at (map-begins x (e ++ rest)) in
+    rw (complete (map x xs) depthAllowed d rest, top, behind) (pairs-counted depthAllowed key xs (omega arith) rest)
+
 -- ---- the order of pairs
 
 -- the same pairs in another order
@@ -116,11 +163,6 @@ pub data Reordered : Pairs → Pairs → Type 0 where
   behind : {k v : Value} {ps qs : Pairs} → Reordered ps qs → Reordered (pair k v ps) (pair k v qs)
   swapped : (k v l w : Value) (ps : Pairs) → Reordered (pair k v (pair l w ps)) (pair l w (pair k v ps))
   and-then : {ps qs rs : Pairs} → Reordered ps qs → Reordered qs rs → Reordered ps rs
-
--- how often the text stands as a key
-abbrev pub timesKey : List ℕ → Pairs → ℕ
-timesKey key no-pairs = 0
-timesKey key (pair k v ps) = cond (keyIs key k) 1 0 + timesKey key ps
 
 module _ (key : List ℕ) where
   pub as-often : {ps qs : Pairs} → Reordered ps qs → timesKey key ps ≡ timesKey key qs

@@ -11,12 +11,13 @@ use Rattle.slices.specs.Logic.{absurd-numbers}
 use Rattle.msgpack.specs.Items.{passItem, depthAllowed}
 use Rattle.msgpack.specs.Readers.{readInteger, readBoolean, contentOfPart, readText, Counted}
 use Rattle.msgpack.specs.Lookup.{Under, found, missing, broken, lastValue, over}
+use Rattle.msgpack.specs.Pairs.{timesOf}
 use Rattle.msgpack.specs.Views.{View, textAt, sizeOf, itemsFrom, itemsBy, frontOf, byteView, Both, both, neither, Each, no-more, and-each, SameUnder, both-found, both-missing, both-broken, SeenAlike, SameKeys}
 use Rattle.msgpack_model.specs.Values.{Value, Values, no-values, value, countValues, Pairs, no-pairs, pair, depth, valuesDepth, pairsDepth, asBoolean, asInteger, asText, asArray, asMap}
 use Rattle.msgpack_model.specs.Encoding.{Encodes, scalar, array, map, EncodesValues, none, next}
 use Rattle.msgpack_model.specs.Complete.{complete}
 use Rattle.msgpack_model.specs.Readers.{integer-reads, boolean-reads, text-reads, ArrayRead, is-array, no-array, array-reads, scalar-no-array, scalar-no-map}
-use Rattle.msgpack_model.specs.Lookup.{keyIs, lastFrom, lastIn, timesKey, FoundAt, value-there, none-there, MapLookup, in-map, not-map, last-value}
+use Rattle.msgpack_model.specs.Lookup.{keyIs, lastFrom, lastIn, timesIn, times-read, FoundAt, value-there, none-there, MapLookup, in-map, not-map, last-value}
 
 -- ---- values
 
@@ -31,10 +32,6 @@ foundBy nothing = missing
 abbrev pub underIn : List ℕ → Option Pairs → Under Value
 underIn key (some ps) = foundBy (lastIn key ps)
 underIn key nothing = broken
-
-abbrev pub timesIn : List ℕ → Option Pairs → ℕ
-timesIn key (some ps) = timesKey key ps
-timesIn key nothing = 0
 
 abbrev pub valueView : View Value
 valueView =
@@ -103,16 +100,6 @@ items-alike {s} {v} x = rw (x .is) (by (asArray v) (array-depth (x .encodes)) (a
     by o inner (is-array {vs = vs} l k ys) = both (each-item ys (omega (arith, inner vs refl, x .shallow)) _ (x .rest) k)
     by o inner no-array = neither
 
-pub bytes-alike : SeenAlike byteView valueView Shows
-unfolding textAt
-bytes-alike =
-    record {
-      integer = λ x. ap readInteger (x .is) ∙ integer-reads (x .encodes) (x .rest);
-      boolean = λ x. ap readBoolean (x .is) ∙ boolean-reads (x .encodes) (x .rest);
-      text = λ x. ap (λ s. contentOfPart s (readText s)) (x .is) ∙ text-reads (x .encodes) (x .rest);
-      items = items-alike;
-    }
-
 under-alike : (key : List ℕ) {s : List ℕ} {v : Value} → Shows s v → SameUnder Shows (byteView .under key s) (valueView .under key v)
 under-alike key {s} {v} x = rw (x .is) (by (asMap v) (map-depth (x .encodes)) (last-value key (x .encodes) (x .shallow) (x .rest)))
   where
@@ -125,6 +112,18 @@ under-alike key {s} {v} x = rw (x .is) (by (asMap v) (map-depth (x .encodes)) (l
         → SameUnder Shows (frontOf (x .front ++ x .rest) (lastValue key (x .front ++ x .rest))) (underIn key o)
     by (some ps) inner (in-map y) = at _ (lastIn key ps) (λ w q. omega (arith, lookup-depth key ps w q, inner ps refl, x .shallow)) y
     by nothing inner (not-map y) = rw y both-broken
+
+pub bytes-alike : SeenAlike byteView valueView Shows
+unfolding textAt
+bytes-alike =
+    record {
+      integer = λ x. ap readInteger (x .is) ∙ integer-reads (x .encodes) (x .rest);
+      boolean = λ x. ap readBoolean (x .is) ∙ boolean-reads (x .encodes) (x .rest);
+      text = λ x. ap (λ s. contentOfPart s (readText s)) (x .is) ∙ text-reads (x .encodes) (x .rest);
+      items = items-alike;
+      times = λ key x. ap (timesOf key) (x .is) ∙ times-read key (x .encodes) (x .shallow) (x .rest);
+      under = λ key x once. under-alike key x;
+    }
 
 pub keys-alike : (keys : List (List ℕ)) {s : List ℕ} {v : Value} → Shows s v → SameKeys byteView valueView Shows keys s v
 keys-alike [] x = tt

@@ -1,7 +1,7 @@
 -- The definitions of the readings, from the answers that their steps gave, and the places of their answers.
 use Prim.Native.Nat.{ℕ}
-use mathlib.Core.Bool.{Bool, true, false, cond}
-use mathlib.Core.List.{List}
+use mathlib.Core.Bool.{Bool, true, false, cond, _||_}
+use mathlib.Core.List.{List, [], _∷_}
 use mathlib.Core.Option.{Option, none, some}
 use mathlib.Core.Path.{_≡_, refl, sym, ap, subst, _∙_}
 use borrow.Author.Tests.{eqb-true}
@@ -16,8 +16,8 @@ use Rattle.msgpack.specs.Pairs.{placeTold}
 use Rattle.msgpack.specs.Readers.{readBoolean}
 use Rattle.identifier.specs.Ulid.{isUlid}
 use Rattle.identifier.specs.Identity.{Identity, isValid, identityOf}
-use Rattle.msgpack.specs.Views.{textAt, byteView, read-front}
-use Rattle.primary.specs.Parts.{isOfLength, fills, ifFills, textUnder, textsBy, textsUnder, ulidKey, bucketKey, objectKey, identifierKey, deletedKey, deleteIdKey, deletedUnder, valid, ulidOf, shapeOf, shapeAt, shapeUnder, blockBy, block, versionBy, version, versionDeleteBy, versionDelete}
+use Rattle.msgpack.specs.Views.{repeats, textAt, frontOf, byteView, read-front, text-times}
+use Rattle.primary.specs.Parts.{isOfLength, fills, ifFills, textUnder, textsBy, textsUnder, ulidKey, bucketKey, objectKey, identifierKey, deletedKey, deleteIdKey, blockKeys, versionKeys, versionDeleteKeys, deletedUnder, valid, ulidOf, shapeOf, shapeAt, shapeUnder, blockBy, identifierRepeats, blockRepeats, block, versionBy, version, versionDeleteBy, versionDelete}
 use Rattle.primary.specs.Answers.{AllInside, BlockInside, VersionInside, DeleteInside}
 use Rattle.primary.specs.declared.Texts.{Texts}
 use Rattle.primary.specs.declared.Fault.{Fault}
@@ -66,9 +66,15 @@ module _ (s : List ℕ) where
   unfolding textsUnder textUnder
   no-texts-are e = rw e
 
-  pub shape-is : (t : Option (List ℕ)) (i : Option Identity) → t ≡ textAt s → i ≡ textsUnder byteView s → blockBy (shapeOf t i) ≡ blockBy (shapeAt byteView s)
+  pub shape-is : (t : Option (List ℕ)) (i : Option Identity) → t ≡ textAt s → i ≡ textsUnder byteView s → shapeOf t i ≡ shapeAt byteView s
   unfolding shapeAt
   shape-is t i e f = rw (e, f)
+
+  -- a text has no keys
+  pub text-once : (keys : List (List ℕ)) (t : List ℕ) → some t ≡ textAt s → repeats byteView keys s ≡ false
+  unfolding repeats
+  text-once [] t e = refl
+  text-once (key ∷ keys) t e = rw (text-times key s t e, text-once keys t e)
 
   pub flag-told : (p : ℕ) → lastValue deletedKey s ≡ placeTold p → atPlace (some false) (λ n. readBoolean (drop n s)) (placeTold p) ≡ deletedUnder byteView s
   unfolding deletedUnder
@@ -94,26 +100,32 @@ pub not-filled : {A : Type 0} (s : List ℕ) (next : Answer A) → fills s ≡ f
 not-filled s next w = rw w
 
 module _ (s : List ℕ) (w : fills s ≡ true) where
-  pub block-is : (p : ValuePlace) → lastValue identifierKey s ≡ p → blockBy (atPlace none (λ n. shapeAt byteView (drop n s)) p) ≡ block s
-  unfolding block shapeUnder
-  block-is p e = rw (w, e) (ap blockBy (sym (read-front none (shapeAt byteView) s p)))
+  -- by where the last `I` stands, and whether another does
+  pub block-is : (p : ValuePlace) → lastValue identifierKey s ≡ p → (r : Bool) → repeats byteView blockKeys s ≡ r
+      → blockBy (atPlace none (λ n. shapeAt byteView (drop n s)) p) (r || identifierRepeats byteView (frontOf s p)) ≡ block s
+  unfolding block shapeUnder blockRepeats
+  block-is p e r f = rw (w, e, f) (ap (λ t. blockBy t (r || identifierRepeats byteView (frontOf s p))) (sym (read-front none (shapeAt byteView) s p)))
 
-  pub version-tested : (i : Identity) (d t : Bool) → some i ≡ textsUnder byteView s → some d ≡ deletedUnder byteView s → t ≡ isValid i → cond t (result (record { identifier = i; deleted = d })) (refused 18) ≡ version s
-  unfolding version identityOf
-  version-tested i d true e f v = rw (w, ← e, ← f, ← v)
-  version-tested i d false e f v = rw (w, ← e, ← f, ← v)
-
-  pub delete-tested : (i : Identity) (u : List ℕ) (t v : Bool) → some i ≡ textsUnder byteView s → some u ≡ textUnder byteView deleteIdKey s → t ≡ isValid i → v ≡ isUlid u
-      → cond t (cond v (result (record { identifier = i; deleteId = u })) (refused 18)) (refused 18) ≡ versionDelete s
-  unfolding versionDelete identityOf ulidOf
-  delete-tested i u true true e f v l = rw (w, ← e, ← f, ← v, ← l)
-  delete-tested i u true false e f v l = rw (w, ← e, ← f, ← v, ← l)
-  delete-tested i u false v e f v′ l = rw (w, ← e, ← f, ← v′)
-
-  pub version-is : (texts : Option Identity) (flag : Option Bool) → texts ≡ textsUnder byteView s → flag ≡ deletedUnder byteView s → versionBy texts flag ≡ version s
+  pub version-is : (texts : Option Identity) (flag : Option Bool) (r : Bool) → texts ≡ textsUnder byteView s → flag ≡ deletedUnder byteView s
+      → r ≡ repeats byteView versionKeys s → versionBy texts flag r ≡ version s
   unfolding version
-  version-is texts flag e f = rw (w, e, f)
+  version-is texts flag r e f o = rw (w, e, f, o)
 
-  pub delete-is : (texts : Option Identity) (t : Option (List ℕ)) → texts ≡ textsUnder byteView s → t ≡ textUnder byteView deleteIdKey s → versionDeleteBy texts t ≡ versionDelete s
+  pub delete-is : (texts : Option Identity) (t : Option (List ℕ)) (r : Bool) → texts ≡ textsUnder byteView s → t ≡ textUnder byteView deleteIdKey s
+      → r ≡ repeats byteView versionDeleteKeys s → versionDeleteBy texts t r ≡ versionDelete s
   unfolding versionDelete
-  delete-is texts t e f = rw (w, e, f)
+  delete-is texts t r e f o = rw (w, e, f, o)
+
+  pub version-tested : (i : Identity) (d t : Bool) → some i ≡ textsUnder byteView s → some d ≡ deletedUnder byteView s → false ≡ repeats byteView versionKeys s
+      → t ≡ isValid i → cond t (result (record { identifier = i; deleted = d })) (refused 18) ≡ version s
+  unfolding identityOf
+  version-tested i d true e f o v = rw (← v) at (version-is (some i) (some d) false e f o)
+  version-tested i d false e f o v = rw (← v) at (version-is (some i) (some d) false e f o)
+
+  pub delete-tested : (i : Identity) (u : List ℕ) (t v : Bool) → some i ≡ textsUnder byteView s → some u ≡ textUnder byteView deleteIdKey s
+      → false ≡ repeats byteView versionDeleteKeys s → t ≡ isValid i → v ≡ isUlid u
+      → cond t (cond v (result (record { identifier = i; deleteId = u })) (refused 18)) (refused 18) ≡ versionDelete s
+  unfolding identityOf ulidOf
+  delete-tested i u true true e f o v l = rw (← v, ← l) at (delete-is (some i) (some u) false e f o)
+  delete-tested i u true false e f o v l = rw (← v, ← l) at (delete-is (some i) (some u) false e f o)
+  delete-tested i u false v e f o v′ l = rw (← v′) at (delete-is (some i) (some u) false e f o)

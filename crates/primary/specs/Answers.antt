@@ -18,7 +18,7 @@ use Rattle.primary.specs.declared.TextRead.the-variants as text-answer
 use Rattle.primary.specs.declared.TextsRead.{TextsRead}
 use Rattle.primary.specs.declared.TextsRead.the-variants as texts-answer
 use Rattle.primary.specs.declared.Fault.{Fault}
-use Rattle.primary.specs.declared.Fault.the-variants.{NotWhole, NotAsDescribed, RuleBroken}
+use Rattle.primary.specs.declared.Fault.the-variants.{NotWhole, NotAsDescribed, Repeated, RuleBroken}
 use Rattle.primary.specs.declared.BlockRead.{BlockRead}
 use Rattle.primary.specs.declared.BlockRead.the-variants as block-answer
 use Rattle.primary.specs.declared.VersionRead.{VersionRead}
@@ -30,6 +30,7 @@ use Rattle.primary.specs.declared.DeleteRead.the-variants as delete-answ
 abbrev pub numberOf : Fault → ℕ
 numberOf NotWhole = 16
 numberOf NotAsDescribed = 17
+numberOf Repeated = 22
 numberOf RuleBroken = 18
 
 -- ---- contents at places

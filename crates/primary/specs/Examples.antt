@@ -12,12 +12,13 @@ use Rattle.msgpack.specs.Formats.{formats, formatOf}
 use Rattle.msgpack.specs.Items.{headOf, passItems, passHead, passItem}
 use Rattle.msgpack.specs.Readers.{isWhole, contentAt, readBoolean}
 use Rattle.msgpack.specs.Lookup.{keyAt, lastWhere, lastValue}
-use Rattle.msgpack.specs.Views.{textAt}
+use Rattle.msgpack.specs.Pairs.{timesWhere, timesOf}
+use Rattle.msgpack.specs.Views.{repeats, textAt}
 use Rattle.identifier.specs.Texts.{member, all, before}
 use Rattle.identifier.specs.Ulid.{alphabet, isCharacter, isUlid}
 use Rattle.identifier.specs.Identity.{sized, isBucket, isObject, Identity, identity, isValid, identityOf}
 use Rattle.identifier.specs.Composite.{compositeText, bucketIn, objectIn, isComposite, identityIn}
-use Rattle.primary.specs.Parts.{fills, textUnder, textsUnder, deletedUnder, ulidOf, shapeAt, shapeUnder, block, Version, version, VersionDelete, versionDelete}
+use Rattle.primary.specs.Parts.{fills, textUnder, textsUnder, deletedUnder, ulidOf, shapeAt, shapeUnder, blockRepeats, block, Version, version, VersionDelete, versionDelete}
 
 -- ---- items in their shortest form
 
@@ -107,14 +108,18 @@ unfoldable pub versions : List (Row Version)
 versions =
     gives (ofBucket herd false) (mapOf (b (text herd) ∷ o ∷ v low ∷ []))
     ∷ gives (ofBucket herd true) (mapOf (d (0xc3 ∷ []) ∷ v low ∷ o ∷ b (text herd) ∷ []))
-    -- the last of a repeated key, and earlier ones of any type
-    ∷ gives (ofBucket flock false) (mapOf (b (text herd) ∷ o ∷ v low ∷ b (text flock) ∷ []))
-    ∷ gives (ofBucket flock false) (mapOf (b nil ∷ o ∷ v low ∷ b (text flock) ∷ []))
+    -- a key twice: with equal values, with others, the first of a wrong type; 17 comes first, where the last is
+    ∷ gives (refused 22) (mapOf (b (text herd) ∷ o ∷ v low ∷ b (text herd) ∷ []))
+    ∷ gives (refused 22) (mapOf (b (text herd) ∷ o ∷ v low ∷ b (text flock) ∷ []))
+    ∷ gives (refused 22) (mapOf (b nil ∷ o ∷ v low ∷ b (text flock) ∷ []))
     ∷ gives (refused 17) (mapOf (b (text herd) ∷ o ∷ v low ∷ b nil ∷ []))
-    -- a key in a wider form
-    ∷ gives (ofBucket flock false) (mapOf (b (text herd) ∷ o ∷ v low ∷ ((0xd9 ∷ 1 ∷ 0x62 ∷ []) ++ text flock) ∷ []))
-    -- unknown keys
-    ∷ gives (ofBucket herd false) (mapOf (deleteId nil ∷ I nil ∷ (nil ++ nil) ∷ b (text herd) ∷ o ∷ v low ∷ []))
+    -- and before a rule that is broken
+    ∷ gives (refused 22) (mapOf (b (text herd) ∷ o ∷ o ∷ v small ∷ []))
+    -- a key in a wider form, alone and as the second
+    ∷ gives (ofBucket flock false) (mapOf (o ∷ v low ∷ ((0xd9 ∷ 1 ∷ 0x62 ∷ []) ++ text flock) ∷ []))
+    ∷ gives (refused 22) (mapOf (b (text herd) ∷ o ∷ v low ∷ ((0xd9 ∷ 1 ∷ 0x62 ∷ []) ++ text flock) ∷ []))
+    -- unknown keys, which may repeat
+    ∷ gives (ofBucket herd false) (mapOf (deleteId nil ∷ I nil ∷ (nil ++ nil) ∷ I nil ∷ (nil ++ nil) ∷ b (text herd) ∷ o ∷ v low ∷ []))
     -- depth 16 and 17
     ∷ gives (ofBucket herd false) (mapOf ((nil ++ nested 15) ∷ b (text herd) ∷ o ∷ v low ∷ []))
     ∷ gives (refused 16) (mapOf ((nil ++ nested 16) ∷ b (text herd) ∷ o ∷ v low ∷ []))
@@ -130,7 +135,7 @@ versions =
 
 pub versions-read : answers version versions ≡ told versions
 unfolding versions version fills textAt textUnder textsUnder deletedUnder passItem passHead passItems headOf isWhole
-    contentAt readBoolean keyAt sameBytes lastWhere lastValue formatOf formats numberAt holds little big isUlid
+    contentAt readBoolean keyAt sameBytes lastWhere lastValue repeats timesOf timesWhere formatOf formats numberAt holds little big isUlid
     isCharacter alphabet isBucket isObject isValid identityOf sized member all
 versions-read = refl
 
@@ -140,11 +145,12 @@ deletes =
     ∷ gives (refused 17) (mapOf (b (text herd) ∷ o ∷ v low ∷ []))
     ∷ gives (refused 17) (mapOf (b (text herd) ∷ o ∷ v small ∷ deleteId nil ∷ []))
     ∷ gives (refused 18) (mapOf (b (text herd) ∷ o ∷ v low ∷ deleteId (text small) ∷ []))
+    ∷ gives (refused 22) (mapOf (b (text herd) ∷ o ∷ v low ∷ deleteId nil ∷ deleteId (text small) ∷ []))
     ∷ []
 
 pub deletes-read : answers versionDelete deletes ≡ told deletes
 unfolding deletes versionDelete fills textAt textUnder textsUnder ulidOf passItem passHead passItems headOf isWhole
-    contentAt keyAt sameBytes lastWhere lastValue formatOf formats numberAt holds little big isUlid isCharacter
+    contentAt keyAt sameBytes lastWhere lastValue repeats timesOf timesWhere formatOf formats numberAt holds little big isUlid isCharacter
     alphabet isBucket isObject isValid identityOf sized member all
 deletes-read = refl
 
@@ -153,8 +159,10 @@ blocks =
     -- either shape
     gives (result (identity low herd scan)) (mapOf (I (text (compositeText (identity low herd scan))) ∷ []))
     ∷ gives (result (identity low herd scan)) (mapOf (I (mapOf (v low ∷ b (text herd) ∷ o ∷ [])) ∷ []))
-    -- the last of a repeated key, in the part and in the map under `I`
-    ∷ gives (result (identity low flock scan)) (mapOf (I nil ∷ I (mapOf (v low ∷ b (text herd) ∷ b (text flock) ∷ o ∷ [])) ∷ []))
+    -- a key twice, in the part and in the map under `I`; only the last `I` is looked into
+    ∷ gives (refused 22) (mapOf (I nil ∷ I (text (compositeText (identity low herd scan))) ∷ []))
+    ∷ gives (refused 22) (mapOf (I (mapOf (v low ∷ b (text herd) ∷ b (text flock) ∷ o ∷ [])) ∷ []))
+    ∷ gives (refused 17) (mapOf (I (mapOf (v low ∷ b (text herd) ∷ b (text flock) ∷ o ∷ [])) ∷ I nil ∷ []))
     ∷ gives (refused 17) (mapOf (b (text herd) ∷ o ∷ v low ∷ []))
     ∷ gives (refused 17) (mapOf (I nil ∷ []))
     ∷ gives (refused 17) (mapOf (I (mapOf (v small ∷ b nil ∷ o ∷ [])) ∷ []))
@@ -165,6 +173,6 @@ blocks =
 pub blocks-read : answers block blocks ≡ told blocks
 unfolding blocks block shapeAt shapeUnder compositeText isComposite identityIn bucketIn objectIn before fills textAt
     textUnder textsUnder passItem passHead passItems headOf isWhole contentAt keyAt sameBytes lastWhere lastValue
-    formatOf formats numberAt holds little big isUlid isCharacter alphabet isBucket isObject isValid identityOf sized
+    repeats timesOf timesWhere blockRepeats formatOf formats numberAt holds little big isUlid isCharacter alphabet isBucket isObject isValid identityOf sized
     member all
 blocks-read = refl

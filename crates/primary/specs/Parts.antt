@@ -1,14 +1,15 @@
--- The primary parts of blocks, versions and version deletes (document 01, "The value", and its refusals 16 to 18; docs/FORMAT.md, Tables 4 to 7).
+-- The primary parts of blocks, versions and version deletes (document 01, "The value", and its refusals 16 to 18; request 4's 22; docs/FORMAT.md,
+-- Tables 4 to 7).
 use Prim.Native.Nat.{ℕ}
-use mathlib.Core.Bool.{Bool, false, cond}
+use mathlib.Core.Bool.{Bool, false, cond, _||_}
 use mathlib.Core.List.{List, [], _∷_}
 use mathlib.Core.Option.{Option, none, some}
 use lib.Dec.{eqb}
 use lib.ListN.{length}
-use Rattle.refusals.specs.Answers.{Answer, refused, result, orRefused}
+use Rattle.refusals.specs.Answers.{Answer, refused, result, orRefused, ifOnce}
 use Rattle.msgpack.specs.Items.{Passage, whole, cut, tooDeep, passItem, depthAllowed}
-use Rattle.msgpack.specs.Lookup.{atPlace, ifThere}
-use Rattle.msgpack.specs.Views.{View, byteView}
+use Rattle.msgpack.specs.Lookup.{Under, found, missing, broken, atPlace, ifThere}
+use Rattle.msgpack.specs.Views.{View, repeats, byteView}
 use Rattle.identifier.specs.Ulid.{isUlid}
 use Rattle.identifier.specs.Identity.{Identity, identity, identityOf}
 use Rattle.identifier.specs.Composite.{identityIn}
@@ -113,47 +114,60 @@ abbrev pub identityBy : Shape → Option Identity
 identityBy (composite t) = identityIn t
 identityBy (separate i) = valid i
 
--- ---- the primary parts: all tests of types come before all rules for texts
+-- ---- the primary parts: all tests of types come first, then 22, and then the rules for texts
 
-abbrev pub blockBy : Option Shape → Answer Identity
-blockBy shape =
+abbrev pub blockBy : Option Shape → Bool → Answer Identity
+blockBy shape repeated =
     orRefused 17 shape λ i.
-    orRefused 18 (identityBy i) result
+    ifOnce repeated
+    (orRefused 18 (identityBy i) result)
 
 pub record Version : Type 0 where
   pub identifier : Identity
   pub deleted : Bool
 
-abbrev pub versionBy : Option Identity → Option Bool → Answer Version
-versionBy texts flag =
+abbrev pub versionBy : Option Identity → Option Bool → Bool → Answer Version
+versionBy texts flag repeated =
     orRefused 17 texts λ i.
     orRefused 17 flag λ deleted.
-    orRefused 18 (valid i) λ identifier.
-    result (record { identifier = identifier; deleted = deleted })
+    ifOnce repeated
+    (orRefused 18 (valid i) λ identifier.
+    result (record { identifier = identifier; deleted = deleted }))
 
 -- `identifier` is that of the version that is deleted
 pub record VersionDelete : Type 0 where
   pub identifier : Identity
   pub deleteId : List ℕ
 
-abbrev pub versionDeleteBy : Option Identity → Option (List ℕ) → Answer VersionDelete
-versionDeleteBy texts deleteText =
+abbrev pub versionDeleteBy : Option Identity → Option (List ℕ) → Bool → Answer VersionDelete
+versionDeleteBy texts deleteText repeated =
     orRefused 17 texts λ i.
     orRefused 17 deleteText λ t.
-    orRefused 18 (valid i) λ identifier.
+    ifOnce repeated
+    (orRefused 18 (valid i) λ identifier.
     orRefused 18 (ulidOf t) λ deleteId.
-    result (record { identifier = identifier; deleteId = deleteId })
+    result (record { identifier = identifier; deleteId = deleteId }))
 
 -- what is seen of the part m
 module _ {I : Type 0} (view : View I) where
+  -- whether a key that is read repeats in the map under `I`
+  abbrev pub identifierRepeats : Under I → Bool
+  identifierRepeats (found i) = repeats view identityKeys i
+  identifierRepeats missing = false
+  identifierRepeats broken = false
+
+  -- in that map, or in the part's own
+  unfoldable pub blockRepeats : I → Bool
+  blockRepeats m = repeats view blockKeys m || identifierRepeats (view .under identifierKey m)
+
   abbrev pub blockSeen : I → Answer Identity
-  blockSeen m = blockBy (shapeUnder view m)
+  blockSeen m = blockBy (shapeUnder view m) (blockRepeats m)
 
   abbrev pub versionSeen : I → Answer Version
-  versionSeen m = versionBy (textsUnder view m) (deletedUnder view m)
+  versionSeen m = versionBy (textsUnder view m) (deletedUnder view m) (repeats view versionKeys m)
 
   abbrev pub versionDeleteSeen : I → Answer VersionDelete
-  versionDeleteSeen m = versionDeleteBy (textsUnder view m) (textUnder view deleteIdKey m)
+  versionDeleteSeen m = versionDeleteBy (textsUnder view m) (textUnder view deleteIdKey m) (repeats view versionDeleteKeys m)
 
 unfoldable pub block : List ℕ → Answer Identity
 block s = ifFills s (blockSeen byteView s)

@@ -1,6 +1,6 @@
 // The primary parts of blocks, versions and version deletes. Answers tell where the texts stand in the
 // part; nothing is copied.
-ghost use mathlib.Core.Bool.{false};
+ghost use mathlib.Core.Bool.{false, _||_};
 ghost use mathlib.Core.Option.{none, some};
 ghost use mathlib.Core.Path.{_≡_};
 ghost use Prim.Native.Nat.{_+_, _≤_};
@@ -11,11 +11,11 @@ ghost use Rattle.msgpack.specs.Items.{passageOf, WholeItem};
 ghost use Rattle.msgpack.specs.Readers.{booleanOf, readBoolean};
 ghost use Rattle.msgpack.specs.Lookup.{atPlace};
 ghost use Rattle.msgpack.specs.Pairs.{placeTold};
-ghost use Rattle.msgpack.specs.Views.{textAt, byteView};
+ghost use Rattle.msgpack.specs.Views.{repeats, textAt, byteView};
 ghost use Rattle.identifier.specs.Identity.{isValid};
 ghost use Rattle.identifier.specs.Ulid.{isUlid};
 ghost use Rattle.identifier.specs.Composite.{identityIn};
-ghost use Rattle.primary.specs.Parts.{isOfLength, textsUnder, shapeAt, valid, blockBy, block, version, versionDelete};
+ghost use Rattle.primary.specs.Parts.{isOfLength, identityKeys, textsUnder, shapeOf, shapeAt, valid, blockBy, block, version, versionDelete};
 ghost use Rattle.primary.specs.Answers.{numberOf, IdentifierAt, textsIn, textOf, textsOf, blockOf, versionOf, versionDeleteOf, AllInside, TextInside, TextsInside, BlockInside, VersionInside, DeleteInside};
 use identifier::Split;
 use msgpack::Boolean;
@@ -45,10 +45,12 @@ const VERSION_KEYS: [u64; 8] = [0x176, 0x162, 0x16f, 0x164, 0, 0, 0, 0];
 // Of a version delete: those of an identifier, and `???`.
 const DELETE_KEYS: [u64; 8] = [0x176, 0x162, 0x16f, 0x13f_3f3f, 0, 0, 0, 0];
 
-// Refusals 16 to 18 of document 01.
+// Refusals 16 to 18 of document 01, and 22.
 pub enum Fault {
     NotWhole,
     NotAsDescribed,
+    // A key that is read stands twice in its map.
+    Repeated,
     RuleBroken,
 }
 
@@ -59,6 +61,7 @@ pub fn number(f: Fault) -> u8
     match f {
         Fault::NotWhole => 16,
         Fault::NotAsDescribed => 17,
+        Fault::Repeated => 22,
         Fault::RuleBroken => 18,
     }
 }
@@ -157,20 +160,6 @@ fn texts_under(part: &[u8], at: usize, places: [usize; 8]) -> TextsRead
     })
 }
 
-// The three texts of the identifier map at a place.
-fn texts_at(part: &[u8], at: usize) -> TextsRead
-    requires { ⌜ (at ≤ length (now part)) × WholeItem (drop at (now part)) ⌝ }
-    ensures { λ r. ⌜ textsOf (now (part .entry)) r ≡ textsUnder byteView (drop at (now (part .entry))) ⌝ }
-    ensures inside { λ r. ⌜ TextsInside (now (part .entry)) r ⌝ }
-{
-    let pairs = msgpack::read_pairs(&part[at..], IDENTIFIER_KEYS);
-    if !pairs.map {
-        return TextsRead::Missing;
-    }
-    let places = pairs.places;
-    texts_under(part, at, places)
-}
-
 // Whether the three texts keep the rules.
 fn is_valid(part: &[u8], t: Texts) -> bool
     ensures { λ r. ⌜ r ≡ isValid (textsIn (now (part .entry)) t) ⌝ }
@@ -228,18 +217,43 @@ fn from_texts(part: &[u8], t: Texts) -> BlockRead
     }
 }
 
-// The identifier at a place, in either shape.
-fn identifier_at(part: &[u8], at: usize) -> BlockRead
+// The identifier map at a place; repeated tells whether a key repeats outside it.
+fn from_map(part: &[u8], at: usize, repeated: bool) -> BlockRead
     requires { ⌜ (at ≤ length (now part)) × WholeItem (drop at (now part)) ⌝ }
-    ensures { λ r. ⌜ blockOf (now (part .entry)) r ≡ blockBy (shapeAt byteView (drop at (now (part .entry)))) ⌝ }
+    ensures { λ r. ⌜ blockOf (now (part .entry)) r ≡ blockBy (shapeOf none (textsUnder byteView (drop at (now (part .entry)))))
+        (repeated || repeats byteView identityKeys (drop at (now (part .entry)))) ⌝ }
+    ensures inside { λ r. ⌜ BlockInside (now (part .entry)) r ⌝ }
+{
+    let pairs = msgpack::read_pairs(&part[at..], IDENTIFIER_KEYS);
+    if !pairs.map {
+        return BlockRead::Fault(Fault::NotAsDescribed);
+    }
+    let places = pairs.places;
+    let TextsRead::At(t) = texts_under(part, at, places) else {
+        return BlockRead::Fault(Fault::NotAsDescribed);
+    };
+    let inner = pairs.repeated;
+    if repeated | inner[0] | inner[1] | inner[2] {
+        return BlockRead::Fault(Fault::Repeated);
+    }
+    from_texts(part, t)
+}
+
+// The identifier at a place, in either shape; repeated tells whether a key repeats outside it.
+fn identifier_at(part: &[u8], at: usize, repeated: bool) -> BlockRead
+    requires { ⌜ (at ≤ length (now part)) × WholeItem (drop at (now part)) ⌝ }
+    ensures { λ r. ⌜ blockOf (now (part .entry)) r ≡ blockBy (shapeAt byteView (drop at (now (part .entry))))
+        (repeated || repeats byteView identityKeys (drop at (now (part .entry)))) ⌝ }
     ensures inside { λ r. ⌜ BlockInside (now (part .entry)) r ⌝ }
 {
     match text_at(part, at) {
-        TextRead::At(text) => from_composite(part, text),
-        TextRead::Missing => match texts_at(part, at) {
-            TextsRead::At(t) => from_texts(part, t),
-            TextsRead::Missing => BlockRead::Fault(Fault::NotAsDescribed),
-        },
+        TextRead::At(text) => {
+            if repeated {
+                return BlockRead::Fault(Fault::Repeated);
+            }
+            from_composite(part, text)
+        }
+        TextRead::Missing => from_map(part, at, repeated),
     }
 }
 
@@ -261,7 +275,8 @@ pub fn read_block(part: &[u8]) -> BlockRead
     if at == 0 {
         return BlockRead::Fault(Fault::NotAsDescribed);
     }
-    identifier_at(part, at)
+    let repeated = pairs.repeated;
+    identifier_at(part, at, repeated[0])
 }
 
 // The delete flag of a version's map, by the place told of its key; absent means false.
@@ -295,6 +310,10 @@ pub fn read_version(part: &[u8]) -> VersionRead
     let Boolean::Read(deleted) = deleted_under(part, places[3]) else {
         return VersionRead::Fault(Fault::NotAsDescribed);
     };
+    let repeated = pairs.repeated;
+    if repeated[3] | repeated[0] | repeated[1] | repeated[2] {
+        return VersionRead::Fault(Fault::Repeated);
+    }
     if is_valid(part, t) {
         VersionRead::Read(t, deleted)
     } else {
@@ -322,6 +341,10 @@ pub fn read_delete(part: &[u8]) -> DeleteRead
     let TextRead::At(id) = text_under(part, 0, places[3]) else {
         return DeleteRead::Fault(Fault::NotAsDescribed);
     };
+    let repeated = pairs.repeated;
+    if repeated[3] | repeated[0] | repeated[1] | repeated[2] {
+        return DeleteRead::Fault(Fault::Repeated);
+    }
     if !is_valid(part, t) {
         return DeleteRead::Fault(Fault::RuleBroken);
     }

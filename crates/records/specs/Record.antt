@@ -1,4 +1,4 @@
--- One record: what its tag and value tell, and what stands at a place of a pack; refusals 1 to 18, and 20, of document 01.
+-- One record: what its tag and value tell, and what stands at a place of a pack; refusals 1 to 18, 20 and 22.
 use Prim.Native.Nat.{ℕ, _+_}
 use mathlib.Core.Bool.{Bool, cond, not, _||_}
 use mathlib.Core.List.{List, [], _∷_}
@@ -89,14 +89,14 @@ byValue tag s (refused n) = refused n
 unfoldable pub readRecord : ℕ → ℕ → List ℕ → Answer Record
 readRecord limit tag s = byValue tag s (value.reading limit s)
 
--- ---- document 01's "can be read", of a version or version delete: none of 9 to 12 and 14 to 18 applies
+-- ---- document 01's "can be read", of a version or version delete: none of 9 to 12, 14 to 18 and 22 applies
 
 unfoldable pub canBeRead : ℕ → ℕ → List ℕ → Bool
 canBeRead limit tag s = isResult (readRecord limit tag s)
 
 -- ---- the record at a place of a pack
 
--- a record with its value's bytes; 1 to 8 with a place; 9 to 18, and 20, alone
+-- a record with its value's bytes; 1 to 8 with a place; 9 to 18, 20 and 22 alone
 pub data AtPlace : Type 0 where
   there : (value : List ℕ) → Record → AtPlace
   refusedAt : (number place : ℕ) → AtPlace

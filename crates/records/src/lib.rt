@@ -26,16 +26,16 @@ pub const VERSION: u16 = 0x7672;
 
 pub const VERSION_DELETE: u16 = 0x7664;
 
-// Refusals 9 to 18 of document 01.
+// Refusals 9 to 18 of document 01, and 22.
 pub enum Fault {
-    // 9 to 12.
+    // 9 to 12, and 22.
     Value(value::Fault),
     UnknownTag,
     // `v` is not 0.
     Version,
     // The primary part is compressed or encrypted.
     Encoded,
-    // 16 to 18.
+    // 16 to 18, and 22.
     Primary(primary::Fault),
 }
 
@@ -260,7 +260,7 @@ pub enum AtPlace {
     TooLong,
     // Refusals 2 to 8, at the place.
     Fault(tlv::Fault, usize),
-    // Refusals 9 to 18.
+    // Refusals 9 to 18, and 22.
     Refused(Fault),
 }
 

@@ -5,13 +5,14 @@ use mathlib.Core.List.{List}
 use mathlib.Core.Option.{Option, some, none as nothing}
 use mathlib.Core.Path.{_≡_, refl, ap, _∙_}
 use native.Mathlib.Omega.{arith}
+use borrow.Author.Tests.{ltb-false}
 use Rattle.msgpack.specs.Lookup.{over}
 use Rattle.msgpack.specs.Views.{Both, both, neither, Each, no-more, and-each, SameUnder, both-found, both-missing, both-broken, SeenAlike}
 use Rattle.msgpack_model.specs.Values.{Value, Binary, Array, Map, Values, no-values, value, Pairs, no-pairs, pair, depth, valuesDepth, pairsDepth, asBoolean, asInteger, asText, asBinary, asArray, asMap}
 use Rattle.msgpack_model.specs.Encoding.{Encodes}
 use Rattle.msgpack_model.specs.Unique.{one-value}
-use Rattle.msgpack_model.specs.Lookup.{isText, keyIs, lastFrom, lastIn, timesKey}
-use Rattle.msgpack_model.specs.Views.{listOf, foundBy, underIn, timesIn, valueView}
+use Rattle.msgpack_model.specs.Lookup.{isText, keyIs, lastFrom, lastIn, timesKey, timesIn}
+use Rattle.msgpack_model.specs.Views.{listOf, foundBy, underIn, valueView}
 
 -- the least such relation: a swap of neighbours, anywhere and as often as wanted, makes every order
 mutual
@@ -182,11 +183,15 @@ items-alike x = by (alike-array x)
     by (both y) = both (each y)
     by neither = neither
 
-pub seen-alike : SeenAlike valueView valueView Alike
-seen-alike = record { integer = same-integer; boolean = same-boolean; text = same-text; items = items-alike }
+times-alike : (key : List ℕ) {v w : Value} → Alike v w → valueView .times key v ≡ valueView .times key w
+times-alike key x = by (alike-map x)
+  where
+    by : {o p : Option Pairs} → Both AlikePairs o p → timesIn key o ≡ timesIn key p
+    by (both y) = same-times key y
+    by neither = refl
 
 -- under a key that does not repeat
-pub under-alike : (key : List ℕ) {v w : Value} → Alike v w → valueView .times key v ≤ 1 → SameUnder Alike (valueView .under key v) (valueView .under key w)
+under-alike : (key : List ℕ) {v w : Value} → Alike v w → valueView .times key v ≤ 1 → SameUnder Alike (valueView .under key v) (valueView .under key w)
 under-alike key {v} {w} x once = by (alike-map x) once
   where
     at : {o p : Option Value} → Both Alike o p → SameUnder Alike (foundBy o) (foundBy p)
@@ -196,3 +201,14 @@ under-alike key {v} {w} x once = by (alike-map x) once
     by : {o p : Option Pairs} → Both AlikePairs o p → timesIn key o ≤ 1 → SameUnder Alike (underIn key o) (underIn key p)
     by (both y) h = at (alike-lookup key y h)
     by neither h = both-broken
+
+pub seen-alike : SeenAlike valueView valueView Alike
+seen-alike =
+    record {
+      integer = same-integer;
+      boolean = same-boolean;
+      text = same-text;
+      items = items-alike;
+      times = times-alike;
+      under = λ key x once. under-alike key x (ltb-false 1 _ once);
+    }

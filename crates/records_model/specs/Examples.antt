@@ -1,43 +1,41 @@
--- A block as two sites may write it, to which the theorem applies, with both answers computed; and a key that repeats, where the order does matter.
-use Prim.Native.Nat.{ℕ, _+_, _<_}
-use mathlib.Core.Bool.{Bool, true, false, _&&_, true≢false}
+-- A block as two sites may write it, to which the theorem applies, with both answers computed; and a key that repeats, where the order decides which
+-- number is given.
+use Prim.Native.Nat.{ℕ, _+_}
+use mathlib.Core.Bool.{Bool, true, false, _&&_}
 use mathlib.Core.List.{List, [], _∷_, _++_}
-use mathlib.Core.Option.{some}
 use mathlib.Core.Path.{_≡_, refl}
 use native.Mathlib.Omega.{arith}
-use borrow.Author.Tests.{leb-true, ltb-true}
-use lib.Dec.{leb, ltb}
+use borrow.Author.Tests.{ltb-true}
+use lib.Dec.{ltb}
 use lib.ListN.{length}
 use Rattle.slices.specs.Bytes.{AllBytes, none-bytes, cons-bytes, sameBytes}
 use Rattle.slices.specs.Logic.{both}
 use Rattle.refusals.specs.Sheet.{lowest}
-use Rattle.refusals.specs.Answers.{Answer, refused, result, isResult}
+use Rattle.refusals.specs.Answers.{Answer, refused, result}
 use Rattle.endian.specs.Numbers.{little, big, littleBytes, bigBytes}
 use Rattle.endian.specs.Places.{holds, numberAt}
 use Rattle.msgpack.specs.Formats.{formats, formatOf}
 use Rattle.msgpack.specs.Items.{headOf, passItems, passHead, passItem}
 use Rattle.msgpack.specs.Readers.{isWhole, plus, integerOf, contentAt, readInteger, countAt}
 use Rattle.msgpack.specs.Lookup.{keyAt, lastWhere, lastValue}
-use Rattle.msgpack.specs.Views.{textAt, itemsFrom}
+use Rattle.msgpack.specs.Pairs.{timesWhere, timesOf}
+use Rattle.msgpack.specs.Views.{repeats, textAt, itemsFrom}
 use Rattle.msgpack_model.specs.Values.{Value, Integer, Text, Binary, Array, Map, no-values, value, Pairs, no-pairs, pair}
 use Rattle.msgpack_model.specs.Encoding.{fixstr, str8, bin8, bin16, fixarray, fixmap, map16, positive-fixint, uint16, text, binary, Encodes, scalar, array, map, none, next, no-pair, next-pair}
-use Rattle.msgpack_model.specs.Unique.{one-value}
-use Rattle.msgpack_model.specs.Views.{valueView}
 use Rattle.msgpack_model.specs.Writers.{number-written}
 use Rattle.identifier.specs.Texts.{member, all}
 use Rattle.identifier.specs.Ulid.{alphabet, isCharacter, isUlid}
 use Rattle.identifier.specs.Identity.{sized, isBucket, isObject, identity, isValid, identityOf}
-use Rattle.value.specs.Header.{primaryKey, secondaryKey, lengthKey, compressionKey, headerKeys, secondaryKeys, coding, Telling, tellingAlone}
+use Rattle.value.specs.Header.{primaryKey, secondaryKey, lengthKey, compressionKey, coding, Telling}
 use Rattle.value.specs.Fields.{naturalUnder, bytesUnder, isThere}
 use Rattle.value.specs.Header as bytes
 use Rattle.value.specs.Reading.{reading}
-use Rattle.primary.specs.Parts.{bucketKey, objectKey, ulidKey, identifierKey, blockKeys, identityKeys, fills, textUnder, textsUnder, shapeAt, shapeUnder}
+use Rattle.primary.specs.Parts.{bucketKey, objectKey, ulidKey, identifierKey, fills, textUnder, textsUnder, shapeAt, shapeUnder}
 use Rattle.primary.specs.Parts as part
 use Rattle.records.specs.Record.{blockTag, isKnown, block, contents, toldRows, readRecord}
 use Rattle.records_model.specs.Alike.{Alike, same, maps, arrays, embedded, next as next-alike, no-values-alike, next-pair as next-pair-alike, no-pairs-alike, swapped, and-further}
 use Rattle.records_model.specs.Record.{RecordHeld, recordIn}
-use Rattle.records_model.specs.NoRepeats.{NoRepeat, BlockNoRepeat, NoRepeats}
-use Rattle.records_model.specs.AnswersAlike.{AnswersAlike, same-refusal, both-read, SameRecord}
+use Rattle.records_model.specs.AnswersAlike.{AnswersAlike, SameRecord}
 use Rattle.records_model.specs.TwoSites.{records-alike}
 
 -- ---- texts in two widths
@@ -105,12 +103,12 @@ abbrev thereBytes : List ℕ
 thereBytes = 0x82 ∷ wide primaryKey ++ 0xc5 ∷ 0 ∷ length therePartBytes ∷ therePartBytes ++ narrow secondaryKey
     ++ 0x91 ∷ 0x82 ∷ narrow compressionKey ++ 7 ∷ narrow lengthKey ++ 0xcd ∷ 0 ∷ 2 ∷ []
 
--- ---- a header with `c` twice: {e, c: 1, c: 0} and {e, c: 0, c: 1}
+-- ---- a header with `c` twice: {e, c: 1, c: 0}, {e, c: nil, c: 0} and {e, c: 0, c: nil}
 
-abbrev twice : ℕ → ℕ → Value
-twice first last = Map (pair (Text primaryKey) (Binary herePartBytes)
-    (pair (Text compressionKey) (Integer (plus first)) (pair (Text compressionKey) (Integer (plus last)) no-pairs)))
+abbrev twice : Value → Value → Value
+twice first last = Map (pair (Text primaryKey) (Binary herePartBytes) (pair (Text compressionKey) first (pair (Text compressionKey) last no-pairs)))
 
+-- each value is one byte
 abbrev twiceBytes : ℕ → ℕ → List ℕ
 twiceBytes first last = 0x83 ∷ narrow primaryKey ++ 0xc4 ∷ length herePartBytes ∷ herePartBytes ++ narrow compressionKey
     ++ first ∷ narrow compressionKey ++ last ∷ []
@@ -133,16 +131,17 @@ withSecondary = record { version = 0; primary = coding 0 false; present = true; 
 pub record Computed : Type 0 where
   pub here : answerTo (hereBytes ++ secondary) ≡ answer herePartBytes secondary withSecondary
   pub there : answerTo (thereBytes ++ secondary) ≡ answer therePartBytes secondary withSecondary
-  pub last-is-0 : answerTo (twiceBytes 1 0) ≡ answer herePartBytes [] (tellingAlone 0 0 false)
-  pub last-is-1 : answerTo (twiceBytes 0 1) ≡ refused 15
+  pub twice-integers : answerTo (twiceBytes 1 0) ≡ refused 22
+  pub nil-first : answerTo (twiceBytes 0xc0 0) ≡ refused 22
+  pub nil-last : answerTo (twiceBytes 0 0xc0) ≡ refused 11
 
 pub computed : Computed
 unfolding readRecord reading passItem passHead headOf numberAt holds formatOf passItems big little formats bytes.header
-    bytes.telling bytes.alone bytes.withList bytes.withMap itemsFrom bytesUnder lastValue lastWhere keyAt sameBytes contentAt isWhole
+    bytes.headerRepeats repeats timesOf timesWhere part.blockRepeats bytes.telling bytes.alone bytes.withList bytes.withMap itemsFrom bytesUnder lastValue lastWhere keyAt sameBytes contentAt isWhole
     naturalUnder readInteger integerOf isThere countAt lowest toldRows isKnown contents part.block fills
     shapeUnder shapeAt textAt textsUnder textUnder identityOf isValid isUlid isCharacter alphabet isBucket isObject
     sized member all bigBytes littleBytes
-computed = record { here = refl; there = refl; last-is-0 = refl; last-is-1 = refl }
+computed = record { here = refl; there = refl; twice-integers = refl; nil-first = refl; nil-last = refl }
 
 -- ---- these are encodings
 
@@ -201,13 +200,12 @@ there-header =
     (next-pair (narrow-text lengthKey refl) (scalar (uint16 (number-written 2 2 (omega arith)))) no-pair))) none))
     no-pair))
 
-pub twice-header : (first last : ℕ) → first < 128 → last < 128 → Encodes (twice first last) (twiceBytes first last)
+pub twice-header : {first last : Value} {a b : ℕ} → Encodes first (a ∷ []) → Encodes last (b ∷ []) → Encodes (twice first last) (twiceBytes a b)
 unfolding isShort all bigBytes littleBytes
-twice-header first last h l =
+twice-header x y =
     map (fixmap 3 (omega arith)) (next-pair (narrow-text primaryKey refl)
     (scalar (binary (bin8 (number-written 1 (length herePartBytes) (omega arith))) (all-bytes herePartBytes refl)))
-    (next-pair (narrow-text compressionKey refl) (scalar (positive-fixint first h))
-    (next-pair (narrow-text compressionKey refl) (scalar (positive-fixint last l)) no-pair)))
+    (next-pair (narrow-text compressionKey refl) x (next-pair (narrow-text compressionKey refl) y no-pair)))
 
 -- ---- the theorem applies to the two sites
 
@@ -217,56 +215,8 @@ sites-alike =
     (next-pair-alike (same _) (embedded here-part there-part (maps (next-pair-alike (same _) (maps (swapped _ _ _ _ _)) no-pairs-alike)))
     (next-pair-alike (same _) (arrays (next-alike (maps (swapped _ _ _ _ no-pairs)) no-values-alike)) no-pairs-alike)))
 
--- the premise, tested
-onceEach : List (List ℕ) → Value → Bool
-onceEach [] m = true
-onceEach (key ∷ keys) m = leb (valueView .times key m) 1 && onceEach keys m
-
-no-repeat : (keys : List (List ℕ)) (m : Value) → onceEach keys m ≡ true → NoRepeat keys m
-unfolding onceEach
-no-repeat [] m e = tt
-no-repeat (key ∷ keys) m e = let p = both (leb (valueView .times key m) 1) (onceEach keys m) e in (leb-true _ _ (p .0), no-repeat keys m (p .1))
-
-part-no-repeat : BlockNoRepeat herePart
-unfolding onceEach sameBytes
-part-no-repeat = record {
-  part = no-repeat blockKeys herePart refl;
-  identifier = λ i q. let is : Map hereIdentity ≡ i = cc in rw (← is) (no-repeat identityKeys (Map hereIdentity) refl);
-}
-
-listed : {a : Value} (b : Value) → some (a ∷ []) ≡ some (b ∷ []) → a ≡ b
-listed b e = cc
-
-no-repeats : NoRepeats blockTag hereHeader
-unfolding onceEach sameBytes
-no-repeats = record {
-  header = record {
-    header = no-repeat headerKeys hereHeader refl;
-    secondary = λ l s i j.
-        let list : Array (value (Map hereSecondary) no-values) ≡ l = cc in
-        let is : Map hereSecondary ≡ s = listed s (rw (← list) at j) in
-        rw (← is) (no-repeat secondaryKeys (Map hereSecondary) refl);
-  };
-  primary = λ e p i x.
-      let is : herePartBytes ≡ e = cc in
-      record {
-        block = λ t. rw (one-value (rw (← is) at x) here-part) part-no-repeat;
-        version = λ t. absurd (omega arith);
-        versionDelete = λ t. absurd (omega arith);
-      };
-}
-
 pub sites-read-alike : AnswersAlike SameRecord (answerTo (hereBytes ++ secondary)) (answerTo (thereBytes ++ secondary))
-sites-read-alike = records-alike limit blockTag here-header there-header sites-alike no-repeats secondary
+sites-read-alike = records-alike limit blockTag here-header there-header sites-alike secondary
 
--- ---- without the premise it does not hold
-
-pub twice-alike : Alike (twice 1 0) (twice 0 1)
-twice-alike = maps (next-pair-alike (same _) (same _) (swapped _ _ _ _ no-pairs))
-
-same-kind : {A : Type 0} {R : A → A → Type 0} {a b : Answer A} → AnswersAlike R a b → isResult a ≡ isResult b
-same-kind (same-refusal n) = refl
-same-kind (both-read x) = refl
-
-pub order-matters : AnswersAlike SameRecord (answerTo (twiceBytes 1 0)) (answerTo (twiceBytes 0 1)) → ⊥
-order-matters x = true≢false (rw (computed .last-is-0, computed .last-is-1) at (same-kind x))
+pub twice-alike : (first last : Value) → Alike (twice first last) (twice last first)
+twice-alike first last = maps (next-pair-alike (same _) (same _) (swapped _ _ _ _ no-pairs))

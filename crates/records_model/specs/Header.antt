@@ -2,7 +2,7 @@
 use Prim.Native.Nat.{ℕ}
 use mathlib.Core.Bool.{cond}
 use mathlib.Core.List.{List}
-use mathlib.Core.Option.{Option, none, some}
+use mathlib.Core.Option.{Option, none}
 use lib.Dec.{leb, eqb}
 use lib.ListN.{length}
 use Rattle.refusals.specs.Answers.{Answer, refused, result}
@@ -10,7 +10,7 @@ use Rattle.msgpack.specs.Items.{depthAllowed}
 use Rattle.msgpack.specs.Lookup.{atPlace}
 use Rattle.msgpack_model.specs.Values.{Value, depth, asBinary}
 use Rattle.msgpack_model.specs.Views.{valueView}
-use Rattle.value.specs.Header.{primaryKey, Telling, telling, Header, headerBy}
+use Rattle.value.specs.Header.{primaryKey, Telling, telling, headerRepeats, Header, headerBy, tested}
 
 -- the bytes under a key
 abbrev pub bytesUnder : List ℕ → Value → Option (List ℕ)
@@ -26,9 +26,9 @@ pub record Held : Type 0 where
   pub secondary : List ℕ
   pub told : Telling
 
-abbrev pub filledBy : List ℕ → Option (Header (List ℕ)) → Answer Held
-filledBy rest (some h) = cond (eqb (h .told .length) (length rest)) (result (record { primary = h .primary; secondary = rest; told = h .told })) (refused 12)
-filledBy rest none = refused 11
+abbrev pub filledBy : List ℕ → Answer (Header (List ℕ)) → Answer Held
+filledBy rest (result h) = cond (eqb (h .told .length) (length rest)) (result (record { primary = h .primary; secondary = rest; told = h .told })) (refused 12)
+filledBy rest (refused n) = refused n
 
 unfoldable pub holds : ℕ → Value → List ℕ → Answer Held
-holds limit m rest = cond (leb (depth m) depthAllowed) (filledBy rest (header limit m)) (refused 10)
+holds limit m rest = cond (leb (depth m) depthAllowed) (filledBy rest (tested (headerRepeats valueView m) (header limit m))) (refused 10)

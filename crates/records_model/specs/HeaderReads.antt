@@ -23,9 +23,9 @@ use Rattle.msgpack_model.specs.Readers.{binary-reads}
 use Rattle.msgpack_model.specs.Views.{valueView, Shows, shown, bytes-alike, keys-alike}
 use Rattle.value.specs.Fields.{shifted}
 use Rattle.value.specs.Fields as bytes-fields
-use Rattle.value.specs.Header.{primaryKey, headerKeys, secondaryKeys, Telling, telling, Header, headerBy, toldIn, tellingOf}
+use Rattle.value.specs.Header.{primaryKey, headerKeys, secondaryKeys, Telling, telling, headerRepeats, Header, headerBy, tested, toldIn, tellingOf}
 use Rattle.value.specs.Header as bytes
-use Rattle.value.specs.HeadersAlike.{telling-alike}
+use Rattle.value.specs.HeadersAlike.{telling-alike, header-repeats-alike}
 use Rattle.value.specs.Reading as value-reading
 use Rattle.value.specs.Reading.{reading}
 use Rattle.value.specs.ReadingLaws.{is-told, primary-content, secondary-content}
@@ -107,19 +107,21 @@ module _ (limit : ℕ) {v : Value} {e : List ℕ} (x : Encodes v e) (d : depth v
   secondary-held = secondary-content limit (e ++ rest) t told ∙ rw (after-header, drop-append-seam e rest)
 
 module _ (limit : ℕ) {v : Value} {e : List ℕ} (x : Encodes v e) (rest : List ℕ) where
-  by-header : depth v ≤ depthAllowed → reading limit (e ++ rest) ≡ value-reading.filled (length e) (e ++ rest) (bytes.header limit e)
+  by-header : depth v ≤ depthAllowed
+      → reading limit (e ++ rest) ≡ value-reading.filled (length e) (e ++ rest) (tested (headerRepeats byteView e) (bytes.header limit e))
   unfolding reading
   by-header d = rw (complete x depthAllowed d rest, take-append-seam e rest)
 
-  whole-reads : depth v ≤ depthAllowed → answerIn (e ++ rest) (reading limit (e ++ rest)) ≡ filledBy rest (header limit v)
-  whole-reads d = rw (← own) (by (bytes.header limit e) refl)
+  whole-reads : depth v ≤ depthAllowed → answerIn (e ++ rest) (reading limit (e ++ rest)) ≡ filledBy rest (tested (headerRepeats valueView v) (header limit v))
+  whole-reads d =
+      rw (← header-reads (shown x d) limit, ← header-repeats-alike byteView valueView Shows bytes-alike e v (shown x d))
+      (by (headerRepeats byteView e) refl (bytes.header limit e) refl)
     where
-      own : over (headerIn e) (bytes.header limit e) ≡ header limit v
-      own = header-reads (shown x d) limit
-
-      by : (h : Option Told) → bytes.header limit e ≡ h → answerIn (e ++ rest) (reading limit (e ++ rest)) ≡ filledBy rest (over (headerIn e) h)
-      by none q = rw (by-header d, q)
-      by (some t) q = test (eqb (t .secondary .len) (length rest)) refl
+      by : (r : Bool) → headerRepeats byteView e ≡ r → (h : Option Told) → bytes.header limit e ≡ h
+          → answerIn (e ++ rest) (reading limit (e ++ rest)) ≡ filledBy rest (tested r (over (headerIn e) h))
+      by r o none q = rw (by-header d, q)
+      by true o (some t) q = rw (by-header d, q, o)
+      by false o (some t) q = test (eqb (t .secondary .len) (length rest)) refl
         where
           fills : eqb (length e + t .secondary .len) (length (e ++ rest)) ≡ eqb (t .secondary .len) (length rest)
           fills = rw length-append (beyond (length e) (t .secondary .len) (length rest))
@@ -128,15 +130,15 @@ module _ (limit : ℕ) {v : Value} {e : List ℕ} (x : Encodes v e) (rest : List
               → answerIn (e ++ rest) (reading limit (e ++ rest))
               ≡ cond b (result (record { primary = headerIn e t .primary; secondary = rest; told = tellingOf t })) (refused 12)
           test true l =
-              let told : reading limit (e ++ rest) ≡ result t = by-header d ∙ rw (q, fills, l) in
+              let told : reading limit (e ++ rest) ≡ result t = by-header d ∙ rw (q, o, fills, l) in
               rw (told, primary-held limit x d rest t told, secondary-held limit x d rest t told)
-          test false l = rw (by-header d, q, fills, l)
+          test false l = rw (by-header d, q, o, fills, l)
 
   -- a value with this header holds what the header and the bytes after it say
   pub value-reads : answerIn (e ++ rest) (reading limit (e ++ rest)) ≡ holds limit v rest
   unfolding holds reading
   value-reads = by (leb (depth v) depthAllowed) refl
     where
-      by : (t : Bool) → leb (depth v) depthAllowed ≡ t → answerIn (e ++ rest) (reading limit (e ++ rest)) ≡ cond t (filledBy rest (header limit v)) (refused 10)
+      by : (t : Bool) → leb (depth v) depthAllowed ≡ t → answerIn (e ++ rest) (reading limit (e ++ rest)) ≡ cond t (filledBy rest (tested (headerRepeats valueView v) (header limit v))) (refused 10)
       by true l = whole-reads (leb-true _ _ l)
       by false l = rw (deeper x depthAllowed (leb-false _ _ l) rest)

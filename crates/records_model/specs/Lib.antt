@@ -3,7 +3,6 @@ pub mod Header
 pub mod HeaderReads
 pub mod Primary
 pub mod Record
-pub mod NoRepeats
 pub mod AnswersAlike
 pub mod SameReading
 pub mod SameRecords

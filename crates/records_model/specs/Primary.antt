@@ -56,12 +56,12 @@ module _ {p : Value} {e : List ℕ} (x : Encodes p e) where
   pub block-reads : bytes.block e ≡ block p
   unfolding bytes.block block
   block-reads = by-shallow x _ _
-      λ d. block-alike byteView valueView Shows bytes-alike e p (keys-alike blockKeys (shown x d)) (λ a b q y. keys-alike identityKeys y)
+      λ d. block-alike byteView valueView Shows bytes-alike e p (shown x d) (keys-alike blockKeys (shown x d)) (λ a b q y. keys-alike identityKeys y)
 
   pub version-reads : bytes.version e ≡ version p
   unfolding bytes.version version
-  version-reads = by-shallow x _ _ λ d. version-alike byteView valueView Shows bytes-alike e p (keys-alike versionKeys (shown x d))
+  version-reads = by-shallow x _ _ λ d. version-alike byteView valueView Shows bytes-alike e p (shown x d) (keys-alike versionKeys (shown x d))
 
   pub version-delete-reads : bytes.versionDelete e ≡ versionDelete p
   unfolding bytes.versionDelete versionDelete
-  version-delete-reads = by-shallow x _ _ λ d. version-delete-alike byteView valueView Shows bytes-alike e p (keys-alike versionDeleteKeys (shown x d))
+  version-delete-reads = by-shallow x _ _ λ d. version-delete-alike byteView valueView Shows bytes-alike e p (shown x d) (keys-alike versionDeleteKeys (shown x d))

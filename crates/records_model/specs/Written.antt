@@ -9,14 +9,15 @@ use Rattle.slices.specs.Bytes.{sameBytes}
 use Rattle.refusals.specs.Sheet.{lowest}
 use Rattle.refusals.specs.Answers.{result}
 use Rattle.msgpack.specs.Readers.{plus}
+use Rattle.msgpack.specs.Views.{repeats}
 use Rattle.msgpack_model.specs.Values.{Value, Integer, Text, Binary, Array, Map, no-values, value, no-pairs, pair}
 use Rattle.msgpack_model.specs.Encoding.{Encodes}
 use Rattle.identifier.specs.Ulid.{isUlid}
 use Rattle.identifier.specs.Identity.{Identity, isValid, identityOf}
 use Rattle.identifier.specs.Composite.{compositeText, text-reads}
 use Rattle.value.specs.Fields.{naturalUnder, isThere}
-use Rattle.value.specs.Header.{primaryKey, secondaryKey, lengthKey, tellingAlone, tellingWith, alone, withMap, withList, telling}
-use Rattle.primary.specs.Parts.{bucketKey, objectKey, ulidKey, identifierKey, deleteIdKey, textUnder, textsUnder, ulidOf, shapeAt, shapeUnder}
+use Rattle.value.specs.Header.{primaryKey, secondaryKey, lengthKey, tellingAlone, tellingWith, alone, withMap, withList, telling, headerRepeats}
+use Rattle.primary.specs.Parts.{bucketKey, objectKey, ulidKey, identifierKey, deleteIdKey, textUnder, textsUnder, ulidOf, shapeAt, shapeUnder, blockRepeats}
 use Rattle.records.specs.Record.{blockTag, versionDeleteTag, isKnown, Contents, versionDelete as deleteKind, block as blockKind, contents, toldRows, readRecord}
 use Rattle.records_model.specs.Header.{header, Held, holds}
 use Rattle.records_model.specs.Primary.{block, versionDelete}
@@ -56,21 +57,21 @@ abbrev pub heldWith : List ℕ → List ℕ → Held
 heldWith part secondary = record { primary = part; secondary = secondary; told = tellingWith (tellingAlone 0 0 false) (length secondary) 0 false }
 
 pub plain-holds : (limit : ℕ) (part : List ℕ) → holds limit (plainHeader part) [] ≡ result (heldAlone part)
-unfolding holds header telling alone naturalUnder isThere sameBytes
+unfolding holds header headerRepeats repeats telling alone naturalUnder isThere sameBytes
 plain-holds limit part = refl
 
 pub block-holds : (limit : ℕ) (part secondary : List ℕ) → length secondary ≤ limit
     → holds limit (blockHeader (length secondary) part) secondary ≡ result (heldWith part secondary)
-unfolding holds header telling alone withList withMap naturalUnder isThere sameBytes
+unfolding holds header headerRepeats repeats telling alone withList withMap naturalUnder isThere sameBytes
 block-holds limit part secondary h = rw (le-leb (length secondary) limit h, eq-eqb (length secondary) (length secondary) refl)
 
 pub block-part : (i : Identity) → isValid i ≡ true → block (blockPart i) ≡ result i
-unfolding block shapeUnder shapeAt sameBytes
+unfolding block blockRepeats repeats shapeUnder shapeAt sameBytes
 block-part i v = rw (text-reads i v)
 
 pub delete-part : (i : Identity) (id : List ℕ) → isValid i ≡ true → isUlid id ≡ true
     → versionDelete (deletePart i id) ≡ result (record { identifier = i; deleteId = id })
-unfolding versionDelete textUnder textsUnder sameBytes identityOf ulidOf
+unfolding versionDelete repeats textUnder textsUnder sameBytes identityOf ulidOf
 delete-part i id v u = rw (v, u)
 
 -- ---- any encodings of them read back

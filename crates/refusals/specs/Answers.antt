@@ -1,6 +1,6 @@
 -- Answers: a result, or the number of a refusal.
 use Prim.Native.Nat.{ℕ}
-use mathlib.Core.Bool.{Bool, true, false}
+use mathlib.Core.Bool.{Bool, true, false, cond}
 use mathlib.Core.Option.{Option, none, some}
 
 pub data Answer (A : Type 0) : Type 0 where
@@ -20,3 +20,7 @@ orRefused number none next = refused number
 abbrev pub unless : {A : Type 0} → Option ℕ → Answer A → Answer A
 unless none next = next
 unless (some n) next = refused n
+
+-- what follows, where no key repeats; else 22 (request 4)
+abbrev pub ifOnce : {A : Type 0} → Bool → Answer A → Answer A
+ifOnce repeated next = cond repeated (refused 22) next

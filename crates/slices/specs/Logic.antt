@@ -1,6 +1,6 @@
 -- Laws of tests, and of what cannot be.
 use Prim.Native.Nat.{ℕ, _+_, _-_, _≤_}
-use mathlib.Core.Bool.{Bool, true, false, _&&_, true≢false}
+use mathlib.Core.Bool.{Bool, true, false, _&&_, _||_, true≢false}
 use mathlib.Core.Logic.{_⊎_, inl, inr}
 use mathlib.Core.Path.{_≡_, refl, sym, _∙_}
 use native.Mathlib.Omega.{arith}
@@ -29,6 +29,18 @@ not-so false h = refl
 pub both : (a b : Bool) → (a && b) ≡ true → (a ≡ true) × (b ≡ true)
 both true b e = (refl, e)
 both false b e = absurd (true≢false (sym e))
+
+pub or-false : (a : Bool) → (a || false) ≡ a
+or-false true = refl
+or-false false = refl
+
+pub or-assoc : (a b c : Bool) → ((a || b) || c) ≡ (a || (b || c))
+or-assoc true b c = refl
+or-assoc false b c = refl
+
+pub neither-so : (a b : Bool) → (a || b) ≡ false → (a ≡ false) × (b ≡ false)
+neither-so true b e = absurd (true≢false e)
+neither-so false b e = (refl, e)
 
 -- a test that adds, by one that subtracts
 pub leb-shift : (a b c : ℕ) → a ≤ c → leb b (c - a) ≡ leb (a + b) c

@@ -1,5 +1,6 @@
 -- What stands under a key of a map, by the place told of it.
 use Prim.Native.Nat.{ℕ, zero, suc}
+use mathlib.Core.Bool.{Bool, false}
 use mathlib.Core.List.{List}
 use mathlib.Core.Option.{Option, none, some}
 use mathlib.Core.Path.{_≡_, refl}
@@ -10,9 +11,9 @@ use lib.ListN.{drop}
 use Rattle.msgpack.specs.Lookup.{broken, lastValue, atPlace, isFound}
 use Rattle.msgpack.specs.Pairs.{placeTold}
 use Rattle.msgpack.specs.Readers.{readBinary, counted, readArray}
-use Rattle.msgpack.specs.Views.{itemsFrom, frontOf, byteView, read-front}
+use Rattle.msgpack.specs.Views.{repeats, itemsFrom, frontOf, byteView, read-front}
 use Rattle.value.specs.Fields.{readNatural, naturalUnder, shifted, bytesUnder, isThere}
-use Rattle.value.specs.Header.{Telling, withMap, withItems, withList}
+use Rattle.value.specs.Header.{secondaryKeys, Telling, withMap, withItems, withList, itemsRepeat}
 
 is-found : (m : List ℕ) (p : ℕ) → isFound (frontOf m (placeTold p)) ≡ ltb 0 p
 is-found m zero = refl
@@ -43,24 +44,30 @@ module _ (key m : List ℕ) (e : lastValue key m ≡ broken) where
 
 -- ---- the list under `s`, by how many items it has
 
-module _ (limit : ℕ) (t : Telling) (s : List ℕ) (n size : ℕ) (e : readArray s ≡ some (counted n size)) where
-  pub list-empty : n ≡ 0 → withList byteView limit t s ≡ some t
-  unfolding withList itemsFrom
-  list-empty z = rw (e, z)
+module _ (limit : ℕ) (t : Telling) (s : List ℕ) where
+  -- what it tells, and whether a key repeats in its map
+  pub record ListIs (told : Option Telling) (repeated : Bool) : Type 0 where
+    pub tells : withList byteView limit t s ≡ told
+    pub repeating : itemsRepeat byteView (byteView .items s) ≡ repeated
 
-  pub list-single : n ≡ 1 → withList byteView limit t s ≡ withMap byteView limit t (drop size s)
-  unfolding withList itemsFrom
-  list-single o = rw (e, o)
+  module _ (n size : ℕ) (e : readArray s ≡ some (counted n size)) where
+    pub list-empty : n ≡ 0 → ListIs (some t) false
+    unfolding withList itemsFrom
+    list-empty z = record { tells = rw (e, z); repeating = rw (e, z) }
 
-  pub list-longer : (n ≡ 0 → ⊥) → (n ≡ 1 → ⊥) → withList byteView limit t s ≡ none
-  unfolding withList itemsFrom
-  list-longer z o = rw e (by n z o)
-    where
-      by : (k : ℕ) → (k ≡ 0 → ⊥) → (k ≡ 1 → ⊥) → withItems byteView limit t (itemsFrom k (drop size s)) ≡ none
-      by zero x y = absurd (x refl)
-      by (suc zero) x y = absurd (y refl)
-      by (suc (suc k)) x y = refl
+    pub list-single : n ≡ 1 → ListIs (withMap byteView limit t (drop size s)) (repeats byteView secondaryKeys (drop size s))
+    unfolding withList itemsFrom
+    list-single o = record { tells = rw (e, o); repeating = rw (e, o) }
 
-pub no-list : (limit : ℕ) (t : Telling) (s : List ℕ) → readArray s ≡ none → withList byteView limit t s ≡ none
-unfolding withList
-no-list limit t s e = rw e
+    pub list-longer : (n ≡ 0 → ⊥) → (n ≡ 1 → ⊥) → withList byteView limit t s ≡ none
+    unfolding withList itemsFrom
+    list-longer z o = rw e (by n z o)
+      where
+        by : (k : ℕ) → (k ≡ 0 → ⊥) → (k ≡ 1 → ⊥) → withItems byteView limit t (itemsFrom k (drop size s)) ≡ none
+        by zero x y = absurd (x refl)
+        by (suc zero) x y = absurd (y refl)
+        by (suc (suc k)) x y = refl
+
+  pub no-list : readArray s ≡ none → withList byteView limit t s ≡ none
+  unfolding withList
+  no-list e = rw e

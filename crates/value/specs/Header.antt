@@ -6,10 +6,11 @@ use mathlib.Core.Option.{Option, none, some}
 use mathlib.Core.Path.{_≡_}
 use lib.Dec.{leb}
 use lib.ListN.{length}
+use Rattle.refusals.specs.Answers.{Answer, result, orRefused, ifOnce}
 use Rattle.msgpack.specs.Readers as msgpack
-use Rattle.msgpack.specs.Lookup.{lastValue, atPlace, ifThere, over}
+use Rattle.msgpack.specs.Lookup.{Under, found, missing, broken, lastValue, atPlace, ifThere, over}
 use Rattle.msgpack.specs.Pairs.{placeTold}
-use Rattle.msgpack.specs.Views.{View, byteView}
+use Rattle.msgpack.specs.Views.{View, repeats, byteView}
 use Rattle.value.specs.Fields.{naturalUnder, bytesUnder, isThere}
 use Rattle.value.specs.declared.Part.{Part}
 use Rattle.value.specs.declared.Told.{Told}
@@ -106,6 +107,22 @@ module _ {I : Type 0} (view : View I) where
   unfoldable pub telling : ℕ → I → Option Telling
   telling limit m = ifThere (alone m) λ t. atPlace (some t) (withList limit t) (view .under secondaryKey m)
 
+  -- whether a key that is read repeats in the map that the list under `s` has
+  abbrev pub itemsRepeat : Option (List I) → Bool
+  itemsRepeat (some []) = false
+  itemsRepeat (some (m ∷ [])) = repeats view secondaryKeys m
+  itemsRepeat (some (m ∷ n ∷ ms)) = false
+  itemsRepeat none = false
+
+  abbrev pub listRepeats : Under I → Bool
+  listRepeats (found l) = itemsRepeat (view .items l)
+  listRepeats missing = false
+  listRepeats broken = false
+
+  -- in that map, or in the header's own
+  unfoldable pub headerRepeats : I → Bool
+  headerRepeats m = repeats view headerKeys m || listRepeats (view .under secondaryKey m)
+
 -- ---- the header: bytes under `e` must be there, and B is how they are told
 
 pub record Header (B : Type 0) : Type 0 where
@@ -114,6 +131,10 @@ pub record Header (B : Type 0) : Type 0 where
 
 abbrev pub headerBy : {B : Type 0} → Option B → Option Telling → Option (Header B)
 headerBy bytes telling = ifThere bytes λ b. ifThere telling λ t. some (record { primary = b; told = t })
+
+-- 11, where the header is not as described; then 22, where a key repeats
+abbrev pub tested : {A : Type 0} → Bool → Option A → Answer A
+tested repeated header = orRefused 11 header λ h. ifOnce repeated (result h)
 
 -- ---- as places of the value
 
@@ -157,10 +178,11 @@ headerAlone m = over (toldIn m) (headerBy (bytesUnder primaryKey m) (alone byteV
 abbrev pub toldWith : Told → Option Telling → Option Told
 toldWith t telling = over (toldAt (t .primary .start) (t .primary .len) (t .secondary .start)) telling
 
--- the places of the values of a header's keys
+-- the places of the values of a header's keys, and whether one of them repeats
 pub record HeaderAt (m : List ℕ) (p : HeaderPlaces) : Type 0 where
   pub primary : lastValue primaryKey m ≡ placeTold (p .e)
   pub secondary : lastValue secondaryKey m ≡ placeTold (p .s)
   pub compression : lastValue compressionKey m ≡ placeTold (p .c)
   pub encryption : lastValue encryptionKey m ≡ placeTold (p .z)
   pub version : lastValue versionKey m ≡ placeTold (p .v)
+  pub repeated : repeats byteView headerKeys m ≡ p .repeated

@@ -1,12 +1,14 @@
 -- Headers that are seen alike tell the same: the rules look at a header through its view alone.
 use Prim.Native.Nat.{ℕ}
+use mathlib.Core.Bool.{Bool, true, false, _||_}
 use mathlib.Core.List.{List, [], _∷_}
 use mathlib.Core.Option.{Option, none, some}
-use mathlib.Core.Path.{_≡_, refl, ap}
+use mathlib.Core.Path.{_≡_, refl, sym, ap, _∙_}
+use Rattle.slices.specs.Logic.{neither-so}
 use Rattle.msgpack.specs.Lookup.{Under, found, atPlace, isFound, ifThere}
-use Rattle.msgpack.specs.Views.{View, Both, both, neither, Each, no-more, and-each, SameUnder, both-found, both-missing, both-broken, SeenAlike, SameKeys}
+use Rattle.msgpack.specs.Views.{View, repeats, Both, both, neither, Each, no-more, and-each, SameUnder, both-found, both-missing, both-broken, SeenAlike, SameKeys, repeats-alike, once-alike}
 use Rattle.value.specs.Fields.{atLeastZero, naturalUnder, isThere}
-use Rattle.value.specs.Header.{secondaryKey, lengthKey, compressionKey, encryptionKey, versionKey, headerKeys, secondaryKeys, Telling, alone, withMap, withItems, withList, telling}
+use Rattle.value.specs.Header.{secondaryKey, lengthKey, compressionKey, encryptionKey, versionKey, headerKeys, secondaryKeys, Telling, alone, withMap, withItems, withList, telling, itemsRepeat, listRepeats, headerRepeats}
 
 module _ {I J : Type 0} (v : View I) (w : View J) (R : I → J → Type 0) (alike : SeenAlike v w R) where
   -- ---- under one key
@@ -84,3 +86,32 @@ module _ {I J : Type 0} (v : View I) (w : View J) (R : I → J → Type 0) (alik
           ≡ (ifThere o λ t. atPlace (some t) (withList w limit t) (w .under secondaryKey j))
       each (some t) = by t (k .1 .0) inner
       each none = refl
+
+  -- ---- in both the same keys repeat
+
+  list-repeats : {o : Under I} {p : Under J} → SameUnder R o p → listRepeats v o ≡ listRepeats w p
+  list-repeats (both-found r) = by (alike .items r)
+    where
+      by : {o : Option (List I)} {p : Option (List J)} → Both (Each R) o p → itemsRepeat v o ≡ itemsRepeat w p
+      by (both no-more) = refl
+      by (both (and-each x no-more)) = repeats-alike v w R alike secondaryKeys x
+      by (both (and-each x (and-each y ys))) = refl
+      by neither = refl
+  list-repeats both-missing = refl
+  list-repeats both-broken = refl
+
+  pub header-repeats-alike : (i : I) (j : J) → R i j → headerRepeats v i ≡ headerRepeats w j
+  unfolding headerRepeats
+  header-repeats-alike i j r = rw (← repeats-alike v w R alike headerKeys r) (by (repeats v headerKeys i) refl)
+    where
+      by : (b : Bool) → repeats v headerKeys i ≡ b → (b || listRepeats v (v .under secondaryKey i)) ≡ (b || listRepeats w (w .under secondaryKey j))
+      by true e = refl
+      by false e = list-repeats (once-alike v w R alike headerKeys r e .1 .0)
+
+  -- where none does, the headers tell the same
+  pub once-telling-alike : (limit : ℕ) (i : I) (j : J) → R i j → headerRepeats v i ≡ false → telling v limit i ≡ telling w limit j
+  unfolding headerRepeats
+  once-telling-alike limit i j r e =
+      let n = neither-so (repeats v headerKeys i) (listRepeats v (v .under secondaryKey i)) e in
+      telling-alike limit i j (once-alike v w R alike headerKeys r (n .0))
+      λ l a b q m y. once-alike v w R alike secondaryKeys y (sym (ap (itemsRepeat v) m) ∙ sym (ap (listRepeats v) q) ∙ n .1)

@@ -1,29 +1,29 @@
--- A value: its header is the first item, and the secondary part is all that follows. Refusals 9 to 12 of document 01, in that order.
+-- A value: its header is the first item, and the secondary part is all that follows. Refusals 9, 10, 11, 22 and 12, in that order.
 use Prim.Native.Nat.{ℕ, _+_, _≤_}
 use mathlib.Core.Bool.{false, cond}
 use mathlib.Core.List.{List}
-use mathlib.Core.Option.{Option, none, some}
 use mathlib.Core.Path.{_≡_}
 use lib.Dec.{eqb}
 use lib.ListN.{length, take, drop}
 use Rattle.refusals.specs.Answers.{Answer, refused, result}
 use Rattle.msgpack.specs.Items.{Passage, whole, cut, tooDeep, passOver}
-use Rattle.value.specs.Header.{coding, part, header}
+use Rattle.msgpack.specs.Views.{byteView}
+use Rattle.value.specs.Header.{headerRepeats, tested, coding, part, header}
 use Rattle.value.specs.declared.Part.{Part}
 use Rattle.value.specs.declared.Told.{Told}
 use Rattle.value.specs.declared.Fault.{Fault}
-use Rattle.value.specs.declared.Fault.the-variants.{Cut, TooDeep, Header, NotFilled}
+use Rattle.value.specs.declared.Fault.the-variants.{Cut, TooDeep, Header, Repeated, NotFilled}
 use Rattle.value.specs.declared.Reading.{Reading}
 use Rattle.value.specs.declared.Reading.the-variants as reading-answer
 
 -- a header of n bytes and the secondary part have to fill the value s
-abbrev pub filled : ℕ → List ℕ → Option Told → Answer Told
-filled n s (some t) = cond (eqb (n + t .secondary .len) (length s)) (result t) (refused 12)
-filled n s none = refused 11
+abbrev pub filled : ℕ → List ℕ → Answer Told → Answer Told
+filled n s (result t) = cond (eqb (n + t .secondary .len) (length s)) (result t) (refused 12)
+filled n s (refused k) = refused k
 
 -- by the first item
 abbrev pub byItem : ℕ → List ℕ → Passage → Answer Told
-byItem limit s (whole n) = filled n s (header limit (take n s))
+byItem limit s (whole n) = filled n s (tested (headerRepeats byteView (take n s)) (header limit (take n s)))
 byItem limit s cut = refused 9
 byItem limit s tooDeep = refused 10
 
@@ -37,6 +37,7 @@ abbrev pub numberOf : Fault → ℕ
 numberOf Cut = 9
 numberOf TooDeep = 10
 numberOf Header = 11
+numberOf Repeated = 22
 numberOf NotFilled = 12
 
 abbrev pub answerOf : Reading → Answer Told

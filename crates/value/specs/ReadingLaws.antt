@@ -22,7 +22,7 @@ use Rattle.msgpack.specs.PassingLaws.{bounded}
 use Rattle.msgpack.specs.ReaderLaws.{part-inside}
 use Rattle.msgpack.specs.LookupLaws.{value-inside}
 use Rattle.value.specs.Fields.{shifted, bytesUnder}
-use Rattle.value.specs.Header.{primaryKey, Telling, telling, headerBy, toldAt, toldIn, header}
+use Rattle.value.specs.Header.{primaryKey, Telling, telling, headerRepeats, headerBy, tested, toldAt, toldIn, header}
 use Rattle.value.specs.Reading.{filled, byItem, reading}
 use Rattle.value.specs.declared.Told.{Told}
 
@@ -65,10 +65,11 @@ primary-is limit m t e = header-placed limit m t e .primary-is
 
 -- ---- the value
 
--- s is a value of which t is told: the header is the first item, and the secondary part is all that follows
+-- s is a value of which t is told: the header is the first item, no key that is read repeats in it, and the secondary part is all that follows
 pub record IsTold (limit : ℕ) (s : List ℕ) (t : Told) : Type 0 where
   pub first-item : passOver s ≡ whole (t .secondary .start)
   pub header-tells : header limit (take (t .secondary .start) s) ≡ some t
+  pub once : headerRepeats byteView (take (t .secondary .start) s) ≡ false
   pub fills : t .secondary .start + t .secondary .len ≡ length s
 
 header-end : (limit : ℕ) (s : List ℕ) (n : ℕ) (t : Told) → passOver s ≡ whole n → header limit (take n s) ≡ some t → t .secondary .start ≡ n
@@ -78,25 +79,32 @@ pub is-told : (limit : ℕ) (s : List ℕ) (t : Told) → reading limit s ≡ re
 unfolding reading
 is-told limit s t e = by (passOver s) refl e
   where
-    fill : (n : ℕ) → passOver s ≡ whole n → (d : Option Told) → header limit (take n s) ≡ d → filled n s d ≡ result t → IsTold limit s t
-    fill n w none q f = absurd-numbers (cc)
-    fill n w (some u) q f = test (eqb (n + u .secondary .len) (length s)) refl f
+    fill : (n : ℕ) → passOver s ≡ whole n → (r : Bool) → headerRepeats byteView (take n s) ≡ r → (d : Option Told) → header limit (take n s) ≡ d
+        → filled n s (tested r d) ≡ result t → IsTold limit s t
+    fill n w r o none q f = absurd-numbers (cc)
+    fill n w true o (some u) q f = absurd-numbers (cc)
+    fill n w false o (some u) q f = test (eqb (n + u .secondary .len) (length s)) refl f
       where
         test : (b : Bool) → eqb (n + u .secondary .len) (length s) ≡ b → cond b (result u) (refused 12) ≡ result t → IsTold limit s t
         test true g h =
             let is : u ≡ t = cc in
             let end = header-end limit s n u w q in
-            rw (← is) (record { first-item = rw end w; header-tells = ap (λ (k : ℕ). header limit (take k s)) end ∙ q; fills = rw end (eqb-true _ _ g) })
+            rw (← is) (record {
+              first-item = rw end w;
+              header-tells = ap (λ (k : ℕ). header limit (take k s)) end ∙ q;
+              once = ap (λ (k : ℕ). headerRepeats byteView (take k s)) end ∙ o;
+              fills = rw end (eqb-true _ _ g);
+            })
         test false g h = absurd-numbers (cc)
 
     by : (r : Passage) → passOver s ≡ r → byItem limit s r ≡ result t → IsTold limit s t
-    by (whole n) w f = fill n w (header limit (take n s)) refl f
+    by (whole n) w f = fill n w (headerRepeats byteView (take n s)) refl (header limit (take n s)) refl f
     by cut w f = absurd-numbers (cc)
     by tooDeep w f = absurd-numbers (cc)
 
 pub told-is : (limit : ℕ) (s : List ℕ) (t : Told) → IsTold limit s t → reading limit s ≡ result t
 unfolding reading
-told-is limit s t i = rw (i .first-item, i .header-tells, eq-eqb _ _ (i .fills))
+told-is limit s t i = rw (i .first-item, i .header-tells, i .once, eq-eqb _ _ (i .fills))
 
 -- ---- the parts lie inside
 

@@ -9,9 +9,9 @@ ghost use Rattle.msgpack.specs.Items.{WholeItem};
 ghost use Rattle.msgpack.specs.Lookup.{atPlace};
 ghost use Rattle.msgpack.specs.Pairs.{placeTold};
 ghost use Rattle.msgpack.specs.Readers.{partOf, readBinary};
-ghost use Rattle.msgpack.specs.Views.{byteView};
+ghost use Rattle.msgpack.specs.Views.{repeats, byteView};
 ghost use Rattle.value.specs.Fields.{readNatural, shifted};
-ghost use Rattle.value.specs.Header.{withMap, withList, header, tellingOf, toldOf, headerAlone, toldWith, HeaderAt};
+ghost use Rattle.value.specs.Header.{secondaryKey, secondaryKeys, withMap, withList, itemsRepeat, listRepeats, headerRepeats, tested, header, tellingOf, toldOf, headerAlone, toldWith, HeaderAt};
 ghost use Rattle.value.specs.Reading.{filled, reading, numberOf, answerOf, primaryPart, secondaryPart, IsPart};
 use endian::Number;
 use msgpack::Content;
@@ -20,13 +20,15 @@ use msgpack::Items;
 use msgpack::Passed;
 use slices::Place;
 
-// Refusals 9 to 12 of document 01.
+// Refusals 9 to 12 of document 01, and 22.
 pub enum Fault {
     // The value begins with no whole item.
     Cut,
     TooDeep,
     // The first item is no header as described.
     Header,
+    // A key that is read stands twice in its map.
+    Repeated,
     // Header and secondary part do not fill the value.
     NotFilled,
 }
@@ -39,6 +41,7 @@ pub fn number(f: Fault) -> u8
         Fault::Cut => 9,
         Fault::TooDeep => 10,
         Fault::Header => 11,
+        Fault::Repeated => 22,
         Fault::NotFilled => 12,
     }
 }
@@ -121,13 +124,14 @@ fn bytes_under(map: &[u8], place: usize) -> Content
 // The codes of a header's keys: `e`, `s`, `c`, `z` and `v`.
 const HEADER_KEYS: [u64; 8] = [0x165, 0x173, 0x163, 0x17a, 0x176, 0, 0, 0];
 
-// Where their values stand; 0 where a key is missing.
+// Where their values stand, 0 where a key is missing; and whether one of the keys repeats.
 struct HeaderPlaces {
     e: usize,
     s: usize,
     c: usize,
     z: usize,
     v: usize,
+    repeated: bool,
 }
 
 // The codes of the keys of the map in `s`: `l`, `c` and `z`.
@@ -173,30 +177,34 @@ fn alone(map: &[u8], places: HeaderPlaces) -> Described
 }
 
 // The same with the secondary part of which the map in `s` tells.
-fn with_map(t: Told, map: &[u8]) -> Described
+fn with_map(t: Told, map: &[u8]) -> Reading
     requires { ⌜ WholeItem (now map) ⌝ }
-    ensures { λ r. ⌜ toldOf r ≡ toldWith t (withMap byteView packLimit (tellingOf t) (now (map .entry))) ⌝ }
+    ensures { λ r. ⌜ answerOf r ≡ tested (repeats byteView secondaryKeys (now (map .entry))) (toldWith t (withMap byteView packLimit (tellingOf t) (now (map .entry)))) ⌝ }
 {
     let primary = t.primary;
     let part = t.secondary;
     let pairs = msgpack::read_pairs(map, SECONDARY_KEYS);
     if !pairs.map {
-        return Described::Not;
+        return Reading::Refused(Fault::Header);
     }
     let places = pairs.places;
     let Number::Read(l) = natural_under(map, places[0], Number::Missing) else {
-        return Described::Not;
+        return Reading::Refused(Fault::Header);
     };
     let len = l as usize;
     if refusals::PACK_LIMIT < len {
-        return Described::Not;
+        return Reading::Refused(Fault::Header);
     }
     let Number::Read(compression) = natural_under(map, places[1], Number::Read(primary.compression))
     else {
-        return Described::Not;
+        return Reading::Refused(Fault::Header);
     };
+    let repeated = pairs.repeated;
+    if repeated[0] | repeated[1] | repeated[2] {
+        return Reading::Refused(Fault::Repeated);
+    }
     let encrypted = (0 < places[2]) | primary.encrypted;
-    Described::As(Told {
+    Reading::Told(Told {
         version: t.version,
         primary,
         present: true,
@@ -210,35 +218,35 @@ fn with_map(t: Told, map: &[u8]) -> Described
 }
 
 // The same with the list at the front of s, which is of no item or of one map.
-fn with_list(t: Told, s: &[u8]) -> Described
+fn with_list(t: Told, s: &[u8]) -> Reading
     requires { ⌜ WholeItem (now s) ⌝ }
-    ensures { λ r. ⌜ toldOf r ≡ toldWith t (withList byteView packLimit (tellingOf t) (now (s .entry))) ⌝ }
+    ensures { λ r. ⌜ answerOf r ≡ tested (itemsRepeat byteView (byteView .items (now (s .entry)))) (toldWith t (withList byteView packLimit (tellingOf t) (now (s .entry)))) ⌝ }
 {
     match msgpack::read_array(s) {
         Items::Counted { count, size } => {
             if count == 0 {
-                return Described::As(t);
+                return Reading::Told(t);
             }
             if count == 1 {
                 return with_map(t, &s[size..]);
             }
-            Described::Not
+            Reading::Refused(Fault::Header)
         }
-        Items::Missing => Described::Not,
+        Items::Missing => Reading::Refused(Fault::Header),
     }
 }
 
 // The header, which is a whole map.
-fn header(map: &[u8], places: HeaderPlaces) -> Described
+fn header(map: &[u8], places: HeaderPlaces) -> Reading
     requires { ⌜ HeaderAt (now map) places ⌝ }
-    ensures { λ r. ⌜ toldOf r ≡ header packLimit (now (map .entry)) ⌝ }
+    ensures { λ r. ⌜ answerOf r ≡ tested (listRepeats byteView (byteView .under secondaryKey (now (map .entry)))) (header packLimit (now (map .entry))) ⌝ }
 {
     let Described::As(t) = alone(map, places) else {
-        return Described::Not;
+        return Reading::Refused(Fault::Header);
     };
     let at = places.s;
     if at == 0 {
-        return Described::As(t);
+        return Reading::Told(t);
     }
     with_list(t, &map[at..])
 }
@@ -248,18 +256,24 @@ fn header(map: &[u8], places: HeaderPlaces) -> Described
 // The value by its first n bytes, which are the header.
 fn filled(value: &[u8], n: usize, places: HeaderPlaces) -> Reading
     requires { ⌜ (n ≤ length (now value)) × HeaderAt (take n (now value)) places ⌝ }
-    ensures { λ r. ⌜ answerOf r ≡ filled n (now (value .entry)) (header packLimit (take n (now (value .entry)))) ⌝ }
+    ensures { λ r. ⌜ answerOf r ≡ filled n (now (value .entry))
+        (tested (headerRepeats byteView (take n (now (value .entry)))) (header packLimit (take n (now (value .entry))))) ⌝ }
 {
     match header(&value[..n], places) {
-        Described::As(t) => {
+        Reading::Told(t) => {
             let part = t.secondary;
-            if part.len == value.len() - n {
+            let fills = part.len == value.len() - n;
+            let repeated = places.repeated;
+            if repeated {
+                return Reading::Refused(Fault::Repeated);
+            }
+            if fills {
                 Reading::Told(t)
             } else {
                 Reading::Refused(Fault::NotFilled)
             }
         }
-        Described::Not => Reading::Refused(Fault::Header),
+        Reading::Refused(f) => Reading::Refused(f),
     }
 }
 
@@ -270,6 +284,7 @@ pub fn read(value: &[u8]) -> Reading
     let pairs = msgpack::read_pairs(value, HEADER_KEYS);
     let passed = pairs.passed;
     let places = pairs.places;
+    let repeated = pairs.repeated;
     match passed {
         Passed::Whole(n) => {
             if !pairs.map {
@@ -284,6 +299,7 @@ pub fn read(value: &[u8]) -> Reading
                     c: places[2],
                     z: places[3],
                     v: places[4],
+                    repeated: repeated[0] | repeated[1] | repeated[2] | repeated[3] | repeated[4],
                 },
             )
         }

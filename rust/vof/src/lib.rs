@@ -42,7 +42,7 @@ pub const ULID: usize = 26;
 /// Why there is no result.
 #[derive(Clone, Copy, Debug, PartialEq, Eq)]
 pub struct Refusal {
-    /// The number in docs/REFUSALS.md, 1 to 20.
+    /// The number in docs/REFUSALS.md, 1 to 20 or 22.
     pub number: u8,
     /// The start of the record at fault, where the refusal is about a place of the pack.
     pub place: Option<u64>,
@@ -60,15 +60,20 @@ impl std::fmt::Display for Refusal {
 
 impl std::error::Error for Refusal {}
 
-/// The word of an answer, or the refusal; refusals up to `placed` have a place.
-fn word(answer: u64, placed: u8) -> Result<u64, Refusal> {
+/// The word of an answer, or the refusal; `placed` says which have a place.
+fn word(answer: u64, placed: fn(u8) -> bool) -> Result<u64, Refusal> {
     match (answer % 256) as u8 {
         0 => Ok(answer / 256),
         number => Err(Refusal {
             number,
-            place: (number <= placed).then_some(answer / 256),
+            place: placed(number).then_some(answer / 256),
         }),
     }
+}
+
+/// 1 to 8, of a pack.
+fn of_pack(number: u8) -> bool {
+    number <= 8
 }
 
 /// One record of a pack, as [`scan`] tells it.
@@ -148,12 +153,12 @@ pub fn scan(pack: &[u8], entries: &mut [Entry]) -> Result<usize, Refusal> {
     // SAFETY: an entry is three numbers, laid out as in C, and any numbers are an entry.
     let told =
         unsafe { std::slice::from_raw_parts_mut(entries.as_mut_ptr().cast(), 3 * entries.len()) };
-    word(raw::scan(pack, told), 8).map(|count| count as usize)
+    word(raw::scan(pack, told), of_pack).map(|count| count as usize)
 }
 
 /// The record at a place of a pack; `identifier` gets its composite text.
 ///
-/// Refused with 1 to 8 and a place, with 9 to 18, with 19 where `identifier` is too short
+/// Refused with 1 to 8 and a place, with 9 to 18 or 22, with 19 where `identifier` is too short
 /// ([`IDENTIFIER_LIMIT`] always suffices), or with 20 where the place is not inside the pack.
 pub fn record<'a, 'b>(
     pack: &'a [u8],
@@ -161,7 +166,7 @@ pub fn record<'a, 'b>(
     identifier: &'b mut [u8],
 ) -> Result<Record<'a, 'b>, Refusal> {
     let mut told = [0; 16];
-    word(raw::record(pack, at, &mut told, identifier), 8)?;
+    word(raw::record(pack, at, &mut told, identifier), of_pack)?;
     let [tag, value, length, parts @ .., deleted, identifier_length, by, by_length] = told;
     Ok(Record {
         tag,
@@ -175,25 +180,30 @@ pub fn record<'a, 'b>(
 
 /// The parts of a value, whatever its record's tag, for whoever opens compressed or encrypted parts.
 ///
-/// Refused with 9 to 12.
+/// Refused with 9 to 12 or 22.
 pub fn value(value: &[u8]) -> Result<Value<'_>, Refusal> {
     let mut told = [0; 10];
-    word(raw::value(value, &mut told), 0)?;
+    word(raw::value(value, &mut told), |_| false)?;
     let [parts @ .., version] = told;
     Ok(read_parts(value, parts, version))
 }
 
 /// The current version of an object, `None` where the pack has none.
 ///
-/// Refused with 1 to 12 or 14 to 18 and a place, or with 20 where the name breaks the rules. A delete
-/// marker is handed back as such.
+/// Refused with 1 to 12, 14 to 18 or 22 and a place, or with 20 where the name breaks the rules. A
+/// delete marker is handed back as such.
 pub fn current<'a>(
     pack: &'a [u8],
     bucket: &[u8],
     object: &[u8],
 ) -> Result<Option<Current<'a>>, Refusal> {
     let (mut told, mut ulid) = ([0; 4], [0; ULID]);
-    word(raw::current(pack, bucket, object, &mut told, &mut ulid), 18)?;
+    // All but what was handed in.
+    let placed = |number| !matches!(number, 19 | 20);
+    word(
+        raw::current(pack, bucket, object, &mut told, &mut ulid),
+        placed,
+    )?;
     let [found, start, length, deleted] = told;
     Ok((found == 1).then(|| Current {
         ulid,
@@ -218,7 +228,7 @@ pub fn write_block(
 
 /// Writes a version with this primary part, as [`write_block`] does.
 ///
-/// Refused with 20 where the primary part does not read (16 to 18), too.
+/// Refused with 20 where the primary part does not read (16 to 18, 22), too.
 pub fn write_version(buffer: &mut [u8], used: usize, primary: &[u8]) -> Result<usize, Refusal> {
     written(raw::write_version(buffer, used, primary))
 }
@@ -239,7 +249,7 @@ pub fn write_delete_of(
 }
 
 fn written(answer: u64) -> Result<usize, Refusal> {
-    word(answer, 0).map(|count| count as usize)
+    word(answer, |_| false).map(|count| count as usize)
 }
 
 fn range(bytes: &[u8], start: u64, length: u64) -> &[u8] {

@@ -100,8 +100,9 @@ pub fn value(value: &[u8], told: &mut [u64]) -> u64 {
     unsafe { vof_value(value.as_ptr(), value.len(), told.as_mut_ptr(), told.len()) }
 }
 
-/// Word: the place of refusals 1 to 18. Told are 4 numbers: 1 where a version is found, its record's
-/// start, its value's length, its delete flag; `ulid` then gets 26 bytes. Zeros where there is nothing.
+/// Word: the place of refusals 1 to 18 and 22. Told are 4 numbers: 1 where a version is found, its
+/// record's start, its value's length, its delete flag; `ulid` then gets 26 bytes. Zeros where there is
+/// nothing.
 pub fn current(
     pack: &[u8],
     bucket: &[u8],

@@ -1,5 +1,6 @@
-//! Document 01 as plainly as can be, written from the papers and not from the proved definitions: its
-//! rules, document 001's letters (docs/FORMAT.md), the published specifications of XXH64 and MessagePack.
+//! Document 01, with refusal 22 of document 02, as plainly as can be, written from the papers and not from the
+//! proved definitions: their rules, document 001's letters (docs/FORMAT.md), the published specifications of
+//! XXH64 and MessagePack.
 
 pub mod identifier;
 pub mod lookup;

@@ -1,5 +1,7 @@
 //! One MessagePack item, read into a tree.
 
+use super::Number;
+
 /// Bytes of the input, and where they start in it.
 #[derive(Clone, Copy, Debug)]
 pub struct Span<'a> {
@@ -21,14 +23,27 @@ pub enum Item<'a> {
 }
 
 impl<'a> Item<'a> {
-    /// What a map has under a key: of a repeated key the last counts.
-    pub fn get(&self, key: &str) -> Option<&Item<'a>> {
+    /// All that a map has under a key, in whatever width this is written.
+    fn values(&self, key: &str) -> Vec<&Item<'a>> {
         let Item::Map(pairs) = self else {
-            return None;
+            return Vec::new();
         };
         let is_key = |item: &Item| matches!(item, Item::Text(text) if text.bytes == key.as_bytes());
-        let found = pairs.iter().rev().find(|(item, _)| is_key(item));
-        found.map(|(_, value)| value)
+        let found = pairs.iter().filter(|(item, _)| is_key(item));
+        found.map(|(_, value)| value).collect()
+    }
+
+    /// The last of these, on which types and rules are tested.
+    pub fn get(&self, key: &str) -> Option<&Item<'a>> {
+        self.values(key).pop()
+    }
+
+    /// Refusal 22, where a map has one of these keys twice.
+    pub fn once(&self, keys: &[&str]) -> Result<(), Number> {
+        match keys.iter().any(|key| self.values(key).len() > 1) {
+            true => Err(22),
+            false => Ok(()),
+        }
     }
 }
 

@@ -31,10 +31,14 @@ fn text<'a>(map: &Item<'a>, key: &str) -> Result<Span<'a>, Number> {
     }
 }
 
-/// 17 of the identifier's texts, and then the identifier itself, None where it is 18.
-fn identifier(map: &Item) -> Result<Option<Identifier>, Number> {
-    let (ulid, bucket, object) = (text(map, "v")?, text(map, "b")?, text(map, "o")?);
-    Ok(Identifier::new(ulid.bytes, bucket.bytes, object.bytes))
+/// The identifier's texts: refusal 17.
+fn texts<'a>(map: &Item<'a>) -> Result<[Span<'a>; 3], Number> {
+    Ok([text(map, "v")?, text(map, "b")?, text(map, "o")?])
+}
+
+/// The identifier of these texts: refusal 18.
+fn identifier([ulid, bucket, object]: [Span; 3]) -> Result<Identifier, Number> {
+    Identifier::new(ulid.bytes, bucket.bytes, object.bytes).ok_or(18)
 }
 
 /// The one map that fills the bytes.
@@ -46,15 +50,24 @@ fn whole_map(bytes: &[u8]) -> Result<Item<'_>, Number> {
     }
 }
 
+/// Refusals 16, 17, 22 and 18, in this order; so too below.
 pub fn read_block(bytes: &[u8]) -> Result<Content<'_>, Number> {
     let map = whole_map(bytes)?;
     let identifier = match map.get("I") {
-        Some(Item::Text(text)) => Identifier::from_text(text.bytes),
-        Some(map @ Item::Map(_)) => identifier(map)?,
+        Some(Item::Text(text)) => {
+            map.once(&["I"])?;
+            Identifier::from_text(text.bytes).ok_or(18)?
+        }
+        Some(inner @ Item::Map(_)) => {
+            let texts = texts(inner)?;
+            map.once(&["I"])?;
+            inner.once(&["v", "b", "o"])?;
+            identifier(texts)?
+        }
         _ => return Err(17),
     };
     Ok(Content {
-        identifier: identifier.ok_or(18)?,
+        identifier,
         deleted: false,
         delete_ulid: None,
     })
@@ -67,8 +80,10 @@ pub fn read_version(bytes: &[u8]) -> Result<Content<'_>, Number> {
         Some(Item::Boolean(deleted)) => *deleted,
         Some(_) => return Err(17),
     };
+    let texts = texts(&map)?;
+    map.once(&["v", "b", "o", "d"])?;
     Ok(Content {
-        identifier: identifier(&map)?.ok_or(18)?,
+        identifier: identifier(texts)?,
         deleted,
         delete_ulid: None,
     })
@@ -76,8 +91,9 @@ pub fn read_version(bytes: &[u8]) -> Result<Content<'_>, Number> {
 
 pub fn read_delete(bytes: &[u8]) -> Result<Content<'_>, Number> {
     let map = whole_map(bytes)?;
-    let delete_ulid = text(&map, "???")?;
-    let identifier = identifier(&map)?.ok_or(18)?;
+    let (texts, delete_ulid) = (texts(&map)?, text(&map, "???")?);
+    map.once(&["v", "b", "o", "???"])?;
+    let identifier = identifier(texts)?;
     if !is_ulid(delete_ulid.bytes) {
         return Err(18);
     }
@@ -88,7 +104,7 @@ pub fn read_delete(bytes: &[u8]) -> Result<Content<'_>, Number> {
     })
 }
 
-/// Refusals 9 to 18.
+/// Refusals 9 to 18, and 22 before 12 and before 18.
 pub fn read_record(tag: [u8; 2], bytes: &[u8]) -> Result<(Value, Content<'_>), Number> {
     let value = read_value(bytes)?;
     let read_content = match &tag {

@@ -20,12 +20,19 @@ pub struct Value {
     pub v: u64,
 }
 
+/// Refusals 9, 10, 11, 22 and 12, in this order.
 pub fn read_value(bytes: &[u8]) -> Result<Value, Number> {
     let (header, length) = read(bytes).map_err(|fault| match fault {
         Fault::NotWhole => 9,
         Fault::TooDeep => 10,
     })?;
     let value = read_header(&header, length).ok_or(11)?;
+    header.once(&["e", "s", "c", "z", "v"])?;
+    if let Some(Item::List(maps)) = header.get("s") {
+        for map in maps {
+            map.once(&["l", "c", "z"])?;
+        }
+    }
     if length + value.secondary.length != bytes.len() {
         return Err(12);
     }

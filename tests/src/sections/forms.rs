@@ -158,21 +158,28 @@ pub fn known_keys(compare: &mut Compare, random: &mut Random) {
     }
 }
 
-fn known_header_keys(compare: &mut Compare, other: &Tree) {
-    let second = pairs_of(map([
+/// Keys of a header with this list in `s`.
+fn header(s: Vec<Tree>) -> Vec<(Tree, Tree)> {
+    pairs_of(map([
+        ("e", Tree::Bytes(b"pp".to_vec())),
+        ("s", Tree::List(s)),
+        ("c", Tree::Integer(1)),
+        ("z", Tree::Nil),
+        ("v", Tree::Integer(0)),
+    ]))
+}
+
+/// Keys of a map in `s`, for three bytes of data.
+fn second_pairs() -> Vec<(Tree, Tree)> {
+    pairs_of(map([
         ("l", Tree::Integer(3)),
         ("c", Tree::Integer(2)),
         ("z", Tree::Nil),
-    ]));
-    let header = |s: Vec<Tree>| {
-        pairs_of(map([
-            ("e", Tree::Bytes(b"pp".to_vec())),
-            ("s", Tree::List(s)),
-            ("c", Tree::Integer(1)),
-            ("z", Tree::Nil),
-            ("v", Tree::Integer(0)),
-        ]))
-    };
+    ]))
+}
+
+fn known_header_keys(compare: &mut Compare, other: &Tree) {
+    let second = second_pairs();
     let mut value = |header: Tree| {
         let header = header.shortest();
         for rest in [&b"abc"[..], b""] {
@@ -219,6 +226,44 @@ fn known_primary_keys(compare: &mut Compare, other: &Tree) {
             primary(compare, b"bk", map([("I", identifier)]));
         }
     }
+}
+
+/// A map of these pairs with one of its keys twice: the second at every place, with the value of
+/// every key, and both in every two widths.
+fn every_second(pairs: &[(Tree, Tree)], mut use_map: impl FnMut(Vec<(Tree, Tree)>)) {
+    for (key, _) in pairs {
+        for (_, value) in pairs {
+            for at in 0..=pairs.len() {
+                for widths in 0..16 {
+                    let wide =
+                        |(key, value): &(Tree, Tree)| (in_width(key, widths % 4), value.clone());
+                    let mut map: Vec<(Tree, Tree)> = pairs.iter().map(wide).collect();
+                    map.insert(at, (in_width(key, widths / 4), value.clone()));
+                    use_map(map);
+                }
+            }
+        }
+    }
+}
+
+fn in_width(key: &Tree, width: usize) -> Tree {
+    Tree::Raw(key.encode(&mut |_| width))
+}
+
+pub fn keys_twice(compare: &mut Compare, _: &mut Random) {
+    let second = second_pairs();
+    let mut value = |header: Vec<(Tree, Tree)>| {
+        compare.value(&[&Tree::Map(header).shortest()[..], b"abc"].concat());
+    };
+    every_second(&header(vec![Tree::Map(second.clone())]), &mut value);
+    every_second(&second, |second| value(header(vec![Tree::Map(second)])));
+    let pairs = primary_pairs();
+    for tag in [b"bk", b"vr", b"vd"] {
+        every_second(&pairs, |part| primary(compare, tag, Tree::Map(part)));
+    }
+    every_second(&pairs[..3], |identifier| {
+        primary(compare, b"bk", map([("I", Tree::Map(identifier))]));
+    });
 }
 
 /// Containers of one item or pair, in every width: what comes before the next container, and after it.

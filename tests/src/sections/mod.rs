@@ -13,7 +13,7 @@ use crate::random::Random;
 
 type Section = (&'static str, fn(&mut Compare, &mut Random));
 
-pub const ALL: [Section; 20] = [
+pub const ALL: [Section; 21] = [
     ("the documents' own cases", document::cases),
     ("the stored lookups", document::lookups),
     ("hashes", document::hashes),
@@ -24,6 +24,10 @@ pub const ALL: [Section; 20] = [
     ),
     ("unknown keys of every type", forms::unknown_keys),
     ("known keys of every type, repeated too", forms::known_keys),
+    (
+        "keys twice, at every place and in every width",
+        forms::keys_twice,
+    ),
     ("nesting", forms::nesting),
     ("integers near powers of two", forms::integers),
     ("item lengths near powers of two", forms::item_lengths),

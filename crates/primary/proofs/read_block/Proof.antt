@@ -1,7 +1,7 @@
 -- `primary::read_block` meets its contract: the part is whole, and the last `I` is read.
 use borrow.Author.Needs.{needs}
 use mathlib.Core.Bool.{true}
-use mathlib.Core.Path.{_≡_, sym, _∙_}
+use mathlib.Core.Path.{_≡_, refl, sym, ap, _∙_}
 use borrow.Author.Tests.{not-true, not-false}
 use lib.ListN.{getD, length}
 use Rattle.msgpack.specs.Items.{whole, passOver}
@@ -11,7 +11,7 @@ use Rattle.msgpack.specs.Pairs.{placeTold}
 use Rattle.msgpack.specs.PairLaws.{told-inside, told-found}
 use Rattle.primary.specs.Parts.{identifierKey, block, fills}
 use Rattle.primary.proofs.Readings.{no-block, fills-is, fills-whole, not-filled, block-is}
-use Rattle.primary.proofs.Keys.{block-place, no-block-map}
+use Rattle.primary.proofs.Keys.{block-place, block-repeats, no-block-map}
 use Rattle.primary.proofs.read_block.Statement.{statement}
 use Rattle.primary.proofs.read_block.Tie as tie
 
@@ -35,7 +35,7 @@ whole-part c = filled (c .before) ∙ not-false _ (c .if1 .left)
 returns-2 : tie.Need-returns-2
 returns-2 c =
     let f = whole-part (c .before .before) in
-    (block-is _ f broken (no-block-map _ _ (c .before .before .before .before .read-pairs .ensures) _ (fills-whole _ f) (not-true _ (c .if2 .taken))), no-block _ _)
+    (block-is _ f broken (no-block-map _ _ (c .before .before .before .before .read-pairs .ensures) _ (fills-whole _ f) (not-true _ (c .if2 .taken))) _ refl, no-block _ _)
 
 array-read-at : tie.Need-array-read-at
 array-read-at c = search needs
@@ -47,19 +47,26 @@ place c =
     block-place _ _ (c .before .before .before .before .before .read-pairs .ensures) _ (fills-whole _ (whole-part (c .before .before .before))) (not-false _ (c .before .if2 .left))
 
 returns-3 : tie.Need-returns-3
-returns-3 c = (block-is _ (whole-part (c .before .before .before .before)) missing (place (c .before) ∙ rw (c .if3 .taken)), no-block _ _)
+returns-3 c = (block-is _ (whole-part (c .before .before .before .before)) missing (place (c .before) ∙ ap placeTold (c .if3 .taken)) _ refl, no-block _ _)
 
 identifier-found : (c : tie.Else3) → lastValue identifierKey (c .before .before .before .before .before .before .before .before .args .part .now)
     ≡ found (getD (c .before .before .before .before .before .before .read-pairs .result .places) 0 0)
 identifier-found c = place (c .before) ∙ told-found _ (c .if3 .left)
 
+array-read-identifier-at : tie.Need-array-read-identifier-at
+array-read-identifier-at c = search needs
+
 identifier-at-requires : tie.Need-identifier-at-requires
 identifier-at-requires c κs =
-    (told-inside identifierKey _ (getD (c .before .before .before .before .before .before .read-pairs .result .places) 0 0) (place (c .before)), value-whole _ _ _ (identifier-found c))
+    let k = c .before in
+    (told-inside identifierKey _ (getD (k .before .before .before .before .before .before .read-pairs .result .places) 0 0) (place (k .before)), value-whole _ _ _ (identifier-found k))
 
 returns-4 : tie.Need-returns-4
 returns-4 c =
-    (c .identifier-at .ensures .0 ∙ block-is _ (whole-part (c .before .before .before .before .before)) _ (identifier-found (c .before)), c .identifier-at .ensures .1)
+    let k = c .before .before in
+    let f = whole-part (k .before .before .before .before) in
+    let r = block-repeats _ _ (k .before .before .before .before .before .before .read-pairs .ensures) _ (fills-whole _ f) in
+    (c .identifier-at .ensures .0 ∙ block-is _ f _ (identifier-found k) _ r, c .identifier-at .ensures .1)
 
 pub read-block-spec : {M : Type 1} → statement M
 read-block-spec =
@@ -71,5 +78,6 @@ read-block-spec =
     returns-2
     array-read-at
     returns-3
+    array-read-identifier-at
     identifier-at-requires
     returns-4)

@@ -9,12 +9,12 @@ use lib.ListN.{getD}
 use Rattle.slices.specs.Places.{partAt, Inside}
 use Rattle.msgpack.specs.Lookup.{lastValue}
 use Rattle.msgpack.specs.Pairs.{placeTold}
-use Rattle.msgpack.specs.Views.{byteView}
-use Rattle.primary.specs.Parts.{versionDelete, fills, deleteIdKey, textUnder, textsUnder}
+use Rattle.msgpack.specs.Views.{repeats, byteView}
+use Rattle.primary.specs.Parts.{versionDelete, fills, deleteIdKey, versionDeleteKeys, textUnder, textsUnder}
 use Rattle.primary.specs.Answers.{textOf, textsOf, textsIn, AllInside}
 use Rattle.primary.proofs.Places.{text-told, told-within}
 use Rattle.primary.proofs.Readings.{delete-inside, no-delete, no-texts-are, fills-is, fills-whole, not-filled, delete-is, delete-tested}
-use Rattle.primary.proofs.Keys.{delete-identifier, delete-id-place, no-delete-map}
+use Rattle.primary.proofs.Keys.{flags, delete-identifier, delete-id-place, delete-repeats, no-delete-map}
 use Rattle.primary.proofs.read_delete.Statement.{statement}
 use Rattle.primary.proofs.read_delete.Tie as tie
 
@@ -38,7 +38,7 @@ whole-part c = filled (c .before) ∙ not-false _ (c .if1 .left)
 returns-2 : tie.Need-returns-2
 returns-2 c =
     let f = whole-part (c .before .before) in
-    (delete-is _ f none _ (no-texts-are _ (no-delete-map _ _ (c .before .before .before .before .read-pairs .ensures) _ (fills-whole _ f) (not-true _ (c .if2 .taken)))) refl, no-delete _ _)
+    (delete-is _ f none _ _ (no-texts-are _ (no-delete-map _ _ (c .before .before .before .before .read-pairs .ensures) _ (fills-whole _ f) (not-true _ (c .if2 .taken)))) refl refl, no-delete _ _)
 
 texts-under-requires : tie.Need-texts-under-requires
 texts-under-requires c κs =
@@ -53,7 +53,7 @@ enum-told c = search needs
 returns-3 : tie.Need-returns-3
 returns-3 c =
     let p = c .before .before .before in
-    (delete-is _ (whole-part (p .before .before .before)) none _ (sym (ap (textsOf (p .before .before .before .before .before .before .before .args .part .now)) (c .enum-told .given .1)) ∙ c .before .before .texts-under .ensures .0) refl, no-delete _ _)
+    (delete-is _ (whole-part (p .before .before .before)) none _ _ (sym (ap (textsOf (p .before .before .before .before .before .before .before .args .part .now)) (c .enum-told .given .1)) ∙ c .before .before .texts-under .ensures .0) refl refl, no-delete _ _)
 
 -- its texts, and where they stand
 texts : (c : tie.After-known-told) → some (textsIn (c .before .before .before .before .before .before .before .before .before .before .before .args .part .now) (c .before .t .given .0 .0))
@@ -99,8 +99,8 @@ text-read c =
 returns-4 : tie.Need-returns-4
 returns-4 c =
     let t = c .before .before .before in (
-      delete-is _ (whole-at-texts t) _ none (texts t)
-          (sym (ap (textOf (t .before .before .before .before .before .before .before .before .before .before .before .args .part .now)) (c .enum-told2 .given .1)) ∙ text-read (c .before .before)),
+      delete-is _ (whole-at-texts t) _ none _ (texts t)
+          (sym (ap (textOf (t .before .before .before .before .before .before .before .before .before .before .before .args .part .now)) (c .enum-told2 .given .1)) ∙ text-read (c .before .before)) refl,
       no-delete _ _,
     )
 
@@ -116,29 +116,59 @@ delete-within : (c : tie.After-known-told2)
     → Inside (c .before .before .before .before .before .before .before .before .before .before .before .before .before .before .before .args .part .now) (c .before .id .given .0 .0)
 delete-within c = c .before .before .before .text-under .ensures .1 .text _ (c .before .id .given .1)
 
-is-valid-requires : tie.Need-is-valid-requires
-is-valid-requires c κs = search needs
+array-read-if3 : tie.Need-array-read-if3
+array-read-if3 c = search needs
+
+array-read-if3-2 : tie.Need-array-read-if3-2
+array-read-if3-2 c = search needs
+
+array-read-if3-3 : tie.Need-array-read-if3-3
+array-read-if3-3 c = search needs
+
+array-read-if3-4 : tie.Need-array-read-if3-4
+array-read-if3-4 c = search needs
+
+-- whether a key repeats
+repeated : (c : tie.After-repeated) → flags (c .before .before .before .before .before .before .before .before .before .before .before .before .before .before .read-pairs .result .repeated)
+    ≡ repeats byteView versionDeleteKeys (c .before .before .before .before .before .before .before .before .before .before .before .before .before .before .before .before .args .part .now)
+repeated c =
+    let t = c .before .before .before .before .before in
+    sym (delete-repeats _ _ (t .before .before .before .before .before .before .before .before .before .read-pairs .ensures) _ (fills-whole _ (whole-at-texts t)))
 
 returns-5 : tie.Need-returns-5
 returns-5 c =
     let d = c .before .before in
     let t = d .before .before .before .before in
-    (delete-tested _ (whole-at-texts t) _ _ false _ (texts t) (delete-text d) (sym (not-true _ (c .if3 .taken)) ∙ c .before .is-valid .ensures) refl, no-delete _ _)
+    (delete-is _ (whole-at-texts t) _ _ true (texts t) (delete-text d) (sym (c .if3 .taken) ∙ repeated (c .before)), no-delete _ _)
+
+is-valid-requires : tie.Need-is-valid-requires
+is-valid-requires c κs = search needs
+
+returns-6 : tie.Need-returns-6
+returns-6 c =
+    let o = c .before .before in
+    let d = o .before .before in
+    let t = d .before .before .before .before in
+    (delete-tested _ (whole-at-texts t) _ _ false _ (texts t) (delete-text d) (sym (o .if3 .left) ∙ repeated (o .before)) (sym (not-true _ (c .if4 .taken)) ∙ c .before .is-valid .ensures) refl, no-delete _ _)
 
 is-ulid-requires : tie.Need-is-ulid-requires
 is-ulid-requires c κs = search needs
 
-returns-6 : tie.Need-returns-6
-returns-6 c =
-    let d = c .before .before .before .before in
-    let t = d .before .before .before .before in
-    (delete-tested _ (whole-at-texts t) _ _ true true (texts t) (delete-text d) (sym (not-false _ (c .before .before .if3 .left)) ∙ c .before .before .before .is-valid .ensures) (sym (c .if4 .taken) ∙ c .before .is-ulid .ensures), delete-inside _ _ _ (texts-within t) (delete-within d))
-
 returns-7 : tie.Need-returns-7
 returns-7 c =
-    let d = c .before .before .before .before in
+    let v = c .before .before in
+    let o = v .before .before in
+    let d = o .before .before in
     let t = d .before .before .before .before in
-    (delete-tested _ (whole-at-texts t) _ _ true false (texts t) (delete-text d) (sym (not-false _ (c .before .before .if3 .left)) ∙ c .before .before .before .is-valid .ensures) (sym (c .if4 .left) ∙ c .before .is-ulid .ensures), no-delete _ _)
+    (delete-tested _ (whole-at-texts t) _ _ true true (texts t) (delete-text d) (sym (o .if3 .left) ∙ repeated (o .before)) (sym (not-false _ (v .if4 .left)) ∙ v .before .is-valid .ensures) (sym (c .if5 .taken) ∙ c .before .is-ulid .ensures), delete-inside _ _ _ (texts-within t) (delete-within d))
+
+returns-8 : tie.Need-returns-8
+returns-8 c =
+    let v = c .before .before in
+    let o = v .before .before in
+    let d = o .before .before in
+    let t = d .before .before .before .before in
+    (delete-tested _ (whole-at-texts t) _ _ true false (texts t) (delete-text d) (sym (o .if3 .left) ∙ repeated (o .before)) (sym (not-false _ (v .if4 .left)) ∙ v .before .is-valid .ensures) (sym (c .if5 .left) ∙ c .before .is-ulid .ensures), no-delete _ _)
 
 pub read-delete-spec : {M : Type 1} → statement M
 read-delete-spec =
@@ -157,8 +187,13 @@ read-delete-spec =
     enum-known-id
     enum-told-2
     returns-4
-    is-valid-requires
+    array-read-if3
+    array-read-if3-2
+    array-read-if3-3
+    array-read-if3-4
     returns-5
-    is-ulid-requires
+    is-valid-requires
     returns-6
-    returns-7)
+    is-ulid-requires
+    returns-7
+    returns-8)

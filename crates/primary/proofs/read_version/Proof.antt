@@ -10,11 +10,11 @@ use Rattle.msgpack.specs.Lookup.{lastValue}
 use Rattle.msgpack.specs.Pairs.{placeTold}
 use Rattle.msgpack.specs.PairLaws.{told-inside}
 use Rattle.msgpack.specs.Readers.{booleanOf}
-use Rattle.msgpack.specs.Views.{byteView}
-use Rattle.primary.specs.Parts.{version, fills, textsUnder, deletedKey, deletedUnder}
+use Rattle.msgpack.specs.Views.{repeats, byteView}
+use Rattle.primary.specs.Parts.{version, fills, versionKeys, textsUnder, deletedKey, deletedUnder}
 use Rattle.primary.specs.Answers.{textsOf, textsIn, AllInside}
 use Rattle.primary.proofs.Readings.{version-inside, no-version, no-texts-are, flag-told, fills-is, fills-whole, not-filled, version-is, version-tested}
-use Rattle.primary.proofs.Keys.{version-identifier, flag-place, no-version-map}
+use Rattle.primary.proofs.Keys.{flags, version-identifier, flag-place, version-repeats, no-version-map}
 use Rattle.primary.proofs.read_version.Statement.{statement}
 use Rattle.primary.proofs.read_version.Tie as tie
 
@@ -38,7 +38,7 @@ whole-part c = filled (c .before) ∙ not-false _ (c .if1 .left)
 returns-2 : tie.Need-returns-2
 returns-2 c =
     let f = whole-part (c .before .before) in
-    (version-is _ f none _ (no-texts-are _ (no-version-map _ _ (c .before .before .before .before .read-pairs .ensures) _ (fills-whole _ f) (not-true _ (c .if2 .taken)))) refl, no-version _ _)
+    (version-is _ f none _ _ (no-texts-are _ (no-version-map _ _ (c .before .before .before .before .read-pairs .ensures) _ (fills-whole _ f) (not-true _ (c .if2 .taken)))) refl refl, no-version _ _)
 
 texts-under-requires : tie.Need-texts-under-requires
 texts-under-requires c κs =
@@ -53,7 +53,7 @@ enum-told c = search needs
 returns-3 : tie.Need-returns-3
 returns-3 c =
     let p = c .before .before .before in
-    (version-is _ (whole-part (p .before .before .before)) none _ (sym (ap (textsOf (p .before .before .before .before .before .before .before .args .part .now)) (c .enum-told .given .1)) ∙ c .before .before .texts-under .ensures .0) refl, no-version _ _)
+    (version-is _ (whole-part (p .before .before .before)) none _ _ (sym (ap (textsOf (p .before .before .before .before .before .before .before .args .part .now)) (c .enum-told .given .1)) ∙ c .before .before .texts-under .ensures .0) refl refl, no-version _ _)
 
 -- its texts, and where they stand
 texts : (c : tie.After-known-told) → some (textsIn (c .before .before .before .before .before .before .before .before .before .before .before .args .part .now) (c .before .t .given .0 .0))
@@ -96,26 +96,53 @@ flag-read c =
 returns-4 : tie.Need-returns-4
 returns-4 c =
     let t = c .before .before .before in
-    (version-is _ (whole-at-texts t) _ none (texts t) (sym (ap booleanOf (c .enum-told2 .given .1)) ∙ flag-read (c .before .before)), no-version _ _)
+    (version-is _ (whole-at-texts t) _ none _ (texts t) (sym (ap booleanOf (c .enum-told2 .given .1)) ∙ flag-read (c .before .before)) refl, no-version _ _)
 
 flag : (c : tie.After-known-told2)
     → some (c .before .deleted .given .0 .0) ≡ deletedUnder byteView (c .before .before .before .before .before .before .before .before .before .before .before .before .before .before .before .args .part .now)
 flag c = sym (ap booleanOf (c .before .deleted .given .1)) ∙ flag-read (c .before .before .before)
 
-is-valid-requires : tie.Need-is-valid-requires
-is-valid-requires c κs = search needs
+array-read-if3 : tie.Need-array-read-if3
+array-read-if3 c = search needs
+
+array-read-if3-2 : tie.Need-array-read-if3-2
+array-read-if3-2 c = search needs
+
+array-read-if3-3 : tie.Need-array-read-if3-3
+array-read-if3-3 c = search needs
+
+array-read-if3-4 : tie.Need-array-read-if3-4
+array-read-if3-4 c = search needs
+
+-- whether a key repeats
+repeated : (c : tie.After-repeated) → flags (c .before .before .before .before .before .before .before .before .before .before .before .before .before .before .read-pairs .result .repeated)
+    ≡ repeats byteView versionKeys (c .before .before .before .before .before .before .before .before .before .before .before .before .before .before .before .before .args .part .now)
+repeated c =
+    let t = c .before .before .before .before .before in
+    sym (version-repeats _ _ (t .before .before .before .before .before .before .before .before .before .read-pairs .ensures) _ (fills-whole _ (whole-at-texts t)))
 
 returns-5 : tie.Need-returns-5
 returns-5 c =
     let f = c .before .before in
     let t = f .before .before .before .before in
-    (version-tested _ (whole-at-texts t) _ _ true (texts t) (flag f) (sym (c .if3 .taken) ∙ c .before .is-valid .ensures), version-inside _ _ _ (texts-within t))
+    (version-is _ (whole-at-texts t) _ _ true (texts t) (flag f) (sym (c .if3 .taken) ∙ repeated (c .before)), no-version _ _)
+
+is-valid-requires : tie.Need-is-valid-requires
+is-valid-requires c κs = search needs
 
 returns-6 : tie.Need-returns-6
 returns-6 c =
-    let f = c .before .before in
+    let o = c .before .before in
+    let f = o .before .before in
     let t = f .before .before .before .before in
-    (version-tested _ (whole-at-texts t) _ _ false (texts t) (flag f) (sym (c .if3 .left) ∙ c .before .is-valid .ensures), no-version _ _)
+    (version-tested _ (whole-at-texts t) _ _ true (texts t) (flag f) (sym (o .if3 .left) ∙ repeated (o .before)) (sym (c .if4 .taken) ∙ c .before .is-valid .ensures), version-inside _ _ _ (texts-within t))
+
+returns-7 : tie.Need-returns-7
+returns-7 c =
+    let o = c .before .before in
+    let f = o .before .before in
+    let t = f .before .before .before .before in
+    (version-tested _ (whole-at-texts t) _ _ false (texts t) (flag f) (sym (o .if3 .left) ∙ repeated (o .before)) (sym (c .if4 .left) ∙ c .before .is-valid .ensures), no-version _ _)
 
 pub read-version-spec : {M : Type 1} → statement M
 read-version-spec =
@@ -134,6 +161,11 @@ read-version-spec =
     enum-known-deleted
     enum-told-2
     returns-4
-    is-valid-requires
+    array-read-if3
+    array-read-if3-2
+    array-read-if3-3
+    array-read-if3-4
     returns-5
-    returns-6)
+    is-valid-requires
+    returns-6
+    returns-7)

@@ -4,6 +4,7 @@ use mathlib.Core.Path.{_≡_, sym, ap, _∙_}
 use mathlib.Core.Option.{some}
 use Rattle.slices.specs.Lists.{part-to-end}
 use Rattle.msgpack.specs.Lookup.{found, lastValue}
+use Rattle.msgpack.specs.Pairs.{placeTold}
 use Rattle.msgpack.specs.LookupLaws.{value-whole}
 use Rattle.msgpack.specs.PairLaws.{told-inside, told-found}
 use Rattle.refusals.specs.Limit.{packLimit}
@@ -28,7 +29,9 @@ returns : tie.Need-returns
 returns c = rw (not-described packLimit _ (sym (c .before .before .alone .ensures) ∙ ap toldOf (c .enum-told .given .1)))
 
 returns-2 : tie.Need-returns-2
-returns-2 c = rw (described-alone packLimit _ _ (alone-read (c .before)) (c .before .before .before .before .before .before .pre .secondary ∙ rw (c .if1 .taken)))
+returns-2 c =
+    let m = c .before .before .before .before .before .before .pre .secondary ∙ ap placeTold (c .if1 .taken) in
+    rw (described-alone packLimit _ _ (alone-read (c .before)) m, m)
 
 -- where the list stands
 list-found : (c : tie.Else1) → lastValue secondaryKey (c .before .before .before .before .before .before .args .map .now) ≡ found (c .before .before .before .before .before .before .args .places .s)
@@ -49,7 +52,9 @@ with-list-requires c κs =
     rw (part-to-end (a .places .s) (a .map .now)) (value-whole _ _ _ (list-found (c .before)))
 
 returns-3 : tie.Need-returns-3
-returns-3 c = c .with-list .ensures ∙ rw (part-to-end, described-with packLimit _ _ (alone-read (c .before .before .before)) _ (list-found (c .before .before)))
+returns-3 c =
+    let l = list-found (c .before .before) in
+    c .with-list .ensures ∙ rw (part-to-end, described-with packLimit _ _ (alone-read (c .before .before .before)) _ l, l)
 
 pub header-spec : {M : Type 1} → statement M
 header-spec =

@@ -7,6 +7,8 @@ use Rattle.slices.specs.Lists.{part-to-end}
 use Rattle.msgpack.specs.Formats.{arrayKind}
 use Rattle.msgpack.specs.Readers.{counted, readArray, countedOf}
 use Rattle.msgpack.specs.ReaderLaws.{head-inside, first-item}
+use Rattle.refusals.specs.Limit.{packLimit}
+use Rattle.value.specs.Header.{tellingOf}
 use Rattle.value.proofs.Lookups.{list-empty, list-single, list-longer, no-list}
 use Rattle.value.proofs.with_list.Statement.{statement}
 use Rattle.value.proofs.with_list.Tie as tie
@@ -21,7 +23,9 @@ enum-known-count : tie.Need-enum-known-count
 enum-known-count c = search needs
 
 returns : tie.Need-returns
-returns c = rw (list-empty _ _ _ _ _ (items-read (c .before)) (c .if1 .taken))
+returns c =
+    let l = list-empty packLimit (tellingOf (c .before .before .before .before .before .before .args .t)) _ _ _ (items-read (c .before)) (c .if1 .taken) in
+    rw (l .tells, l .repeating)
 
 sub-with-map : tie.Need-sub-with-map
 sub-with-map c = omega (arith, head-inside arrayKind _ _ (items-read (c .before .before)))
@@ -40,8 +44,10 @@ with-map-requires c κs =
     (first-item (a .args .s .now) _ (items-read (n .before .before)) (omega (arith, n .if2 .taken)) (a .pre))
 
 returns-2 : tie.Need-returns-2
-returns-2 c = let n = c .before .before in
-    c .with-map .ensures ∙ rw (part-to-end, list-single _ _ _ _ _ (items-read (n .before .before)) (n .if2 .taken))
+returns-2 c =
+    let n = c .before .before in
+    let l = list-single packLimit (tellingOf (n .before .before .before .before .before .before .before .args .t)) _ _ _ (items-read (n .before .before)) (n .if2 .taken) in
+    c .with-map .ensures ∙ rw (part-to-end, l .tells, l .repeating)
 
 enum-told : tie.Need-enum-told
 enum-told c = search needs

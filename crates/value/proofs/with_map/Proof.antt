@@ -16,7 +16,7 @@ use Rattle.value.proofs.with_map.Statement.{statement}
 use Rattle.value.proofs.with_map.Tie as tie
 
 -- where the map's values stand
-places-are : (c : tie.Else1) → SecondaryAt (c .before .before .before .before .before .before .args .map .now) (c .before .before .read-pairs .result .places)
+places-are : (c : tie.Else1) → SecondaryAt (c .before .before .before .before .before .before .args .map .now) (c .before .before .read-pairs .result .places) (c .before .before .read-pairs .result .repeated)
 places-are c = secondary-places _ _ (c .before .before .read-pairs .ensures) (c .before .before .before .before .before .before .pre) (not-false _ (c .if1 .left))
 
 length-read : (c : tie.After-known-told) → naturalUnder byteView lengthKey (c .before .before .before .before .before .before .before .before .before .before .before .args .map .now) none
@@ -82,18 +82,40 @@ returns-4 c =
       natural-told _ _ (getD (l .before .before .before .before .before .before .before .before .read-pairs .result .places) 1 0) (places-are (l .before .before .before .before .before .before) .compression) (some _) ∙ sym (c .before .before .natural-under2 .ensures) ∙ ap numberOf (c .enum-told2 .given .1),
     )
 
-array-read-encrypted : tie.Need-array-read-encrypted
-array-read-encrypted c = search needs
+array-read-if3 : tie.Need-array-read-if3
+array-read-if3 c = search needs
+
+array-read-if3-2 : tie.Need-array-read-if3-2
+array-read-if3-2 c = search needs
+
+array-read-if3-3 : tie.Need-array-read-if3-3
+array-read-if3-3 c = search needs
 
 returns-5 : tie.Need-returns-5
 unfolding withMap
 returns-5 c =
-    let k = c .before in
+    let k = c .before .before in
     let l = k .before .before .before .before in
     rw (
       length-read (l .before),
       le-leb _ packLimit (l .if2 .left),
       compression-read k,
+      places-are (l .before .before .before .before .before .before) .repeats ∙ c .if3 .taken,
+    )
+
+array-read-encrypted : tie.Need-array-read-encrypted
+array-read-encrypted c = search needs
+
+returns-6 : tie.Need-returns-6
+unfolding withMap
+returns-6 c =
+    let k = c .before .before .before in
+    let l = k .before .before .before .before in
+    rw (
+      length-read (l .before),
+      le-leb _ packLimit (l .if2 .left),
+      compression-read k,
+      places-are (l .before .before .before .before .before .before) .repeats ∙ c .before .if3 .left,
       there-told _ _ (getD (l .before .before .before .before .before .before .before .before .read-pairs .result .places) 2 0) (places-are (l .before .before .before .before .before .before) .encryption),
     )
 
@@ -114,5 +136,9 @@ with-map-spec =
     enum-known-compression
     enum-told-2
     returns-4
+    array-read-if3
+    array-read-if3-2
+    array-read-if3-3
+    returns-5
     array-read-encrypted
-    returns-5)
+    returns-6)
