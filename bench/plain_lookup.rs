@@ -157,7 +157,7 @@ fn secondary_length(parameters: Option<Item>) -> Result<(u64, bool), u32> {
 
 fn is_ulid(text: &[u8]) -> bool {
     let is_digit = |b: &u8| matches!(b, b'0'..=b'9' | b'A'..=b'Z') && !b"ILOU".contains(b);
-    text.len() == 26 && text.iter().all(is_digit)
+    text.len() == 26 && text.iter().all(is_digit) && text[0] <= b'7'
 }
 
 fn is_bucket(text: &[u8]) -> bool {

@@ -131,7 +131,7 @@ def earliest(*among):
 
 # In rising order: a digit before a letter, an earlier character before a later one.
 LEAST, OLD, MIDDLE, NEW = "0" * 26, "0" * 25 + "9", "0" * 25 + "A", "0" + "Z" * 25
-GREATEST = "Z" * 26
+GREATEST, BEYOND = "7" + "Z" * 25, ["8" + "0" * 25, "9" + NEW[1:], "Z" * 26]
 BY = "7YF1QTCNCDN7FYSQFD2PFH2DCS"
 LIST, SCAN, PEN = ("herd", "list"), ("herd", "scans/7/list"), ("pen", "list")
 
@@ -209,7 +209,7 @@ def greatest():
     five = each(LEAST, OLD, MIDDLE, NEW, GREATEST)
     orders("five versions", five, (LIST, five[4]))
     for k in range(26):
-        pair = each(MIDDLE[:k] + "G" + MIDDLE[k + 1 :], MIDDLE[:k] + "H" + MIDDLE[k + 1 :])
+        pair = each(MIDDLE[:k] + "6" + MIDDLE[k + 1 :], MIDDLE[:k] + "7" + MIDDLE[k + 1 :])
         orders("ULIDs apart at %d" % k, pair, (LIST, pair[1]))
     letters = each(*["1" * 20 + x + "1" * 5 for x in "0123456789ABCDEFGHJKMNPQRSTVWXYZ"])
     for k in range(31):
@@ -514,7 +514,7 @@ def part_faults(tag, keys):
         for last in (others[key], ""):
             yield made(22, pairs(*keys.items(), (sized(0xD9, 1, len(key), key.encode()), last)))
         yield made(17, pairs(*keys.items(), (key, NIL)))
-    for ulid in (NEW[:25] + "U", NEW.lower(), NEW[:25], ""):
+    for ulid in (NEW[:25] + "U", NEW.lower(), NEW[:25], "", *BEYOND):
         yield other(18, "v", ulid)
     for bucket in ("b" * 64, "he/rd", ""):
         yield other(18, "b", bucket)
@@ -527,6 +527,7 @@ def part_faults(tag, keys):
     else:
         yield other(18, "???", BY[:25])
         yield other(18, "???", BY.lower())
+        yield other(18, "???", BEYOND[0])
 
 
 def faults(tag, name):

@@ -169,7 +169,13 @@ ALPHABET = b"0123456789ABCDEFGHJKMNPQRSTVWXYZ"
 
 
 def is_ulid(s):
-    return len(s) == 26 and all(byte in ALPHABET for byte in s)
+    """26 characters, and the number that they write in base 32 has at most 128 bits (request 2)."""
+    number = 0
+    for byte in s:
+        if byte not in ALPHABET:
+            return False
+        number = 32 * number + ALPHABET.index(byte)
+    return len(s) == 26 and number < 2**128
 
 
 def is_name(bucket, object):

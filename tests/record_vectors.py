@@ -219,8 +219,11 @@ ULID = "00000000000000000000000001"
 OTHER = "7ZZZZZZZZZZZZZZZZZZZZZZZZZ"
 HERD = ULID + ":herd/k"
 TOLD = "u " + ULID + " b herd o k"
+# 26 characters that write a number of more than 128 bits.
+BEYOND = [("beginning with " + x, x + "0" * 25) for x in "89AZ"]
 # Breaches of the rules for a ULID.
 ULIDS = [
+    *BEYOND,
     ("of 25 characters", ULID[:25]),
     ("of 27 characters", ULID + "0"),
     ("of no characters", ""),
@@ -246,9 +249,9 @@ def identifiers():
     read("001:822", "7YF1QTCNCDN7FYSQFD2PFH2DCS:bucket/object")
     read("herd", HERD, "/ 31 " + TOLD)
     read("all letters, first half", "0123456789ABCDEFGHJKMNPQRS:b/o")
-    read("all letters, second half", "GHJKMNPQRSTVWXYZ0123456789:b/o")
+    read("all letters, second half", "0123456789GHJKMNPQRSTVWXYZ:b/o")
     read("greatest ULID of 128 bits", OTHER + ":b/o")
-    read("first letter above 7", "Z" * 26 + ":b/o")
+    read("greatest number of 130 bits", "Z" * 26 + ":b/o", no)
     read("longest, 1115 bytes", ULID + ":" + "b" * 63 + "/" + "o" * 1024)
     read("bucket of 64", ULID + ":" + "b" * 64 + "/o", no)
     read("bucket of 0", ULID + ":/o", no)
@@ -477,6 +480,7 @@ def identifier_maps(kind, made):
             read("%s is %s" % (key, name), 17, **{key: WRONG[name]})
     for name, ulid in ULIDS:
         read("v " + name, 18, v=ulid)
+    read("v of 128 bits", v=OTHER)
     read("bucket of 1", b="b")
     read("bucket of 63", b="b" * 63)
     read("bucket of 64", 18, b="b" * 64)
@@ -513,8 +517,10 @@ def blocks():
         ("no colon", ULID + "b/o"),
         ("a small letter", HERD.replace("1", "a")),
         ("no text at all", ""),
+        *[("a ULID " + name, ulid + ":b/o") for name, ulid in BEYOND],
     ]:
         vector("block", "I with " + name, item({"I": text}), 18)
+    vector("block", "I with a ULID of 128 bits", item({"I": OTHER + ":b/o"}))
     vector("block", "I with slashes in the object", item({"I": HERD + "/a/"}))
     vector("block", "I with object of 1024", item({"I": ULID + ":b/" + "o" * 1024}))
     vector("block", "I with object of 1025", item({"I": ULID + ":b/" + "o" * 1025}), 18)
@@ -868,7 +874,7 @@ def written_blocks():
     # The widths of the text, and at 250 and 251 of the primary part.
     for n in (30, 31, 32, 250, 251, 255, 256, 1053):
         write_block("with a text of %d bytes" % n, Held(ULID, "b", "o" * (n - 29)), b"abc")
-    longest = Held("Z" * 26, "b" * 63, "o" * 1024)
+    longest = Held(OTHER, "b" * 63, "o" * 1024)
     write_block("with the longest identifier", longest, b"abc")
     write_block("with slashes in the object", Held(OTHER, "b:", "//a/"), b"/")
     write_block("with bytes that are no UTF-8", Held(ULID, "\udcff\\", "\udcfe \0"), b"\0\xff")
@@ -903,6 +909,7 @@ def written_parts():
             write("part of %d bytes" % n, part_of, 32 + 3 + (2 if n < 256 else 3) + n)
         write("depth 16", item({**given, "x": lists(15)}))
         write("longest names", item({**given, "b": "b" * 63, "o": "o" * 1024}))
+        write("ULID of 128 bits", item({**given, "v": OTHER}))
         for name, broken in [
             ("empty part", b""),
             ("cut", part[:-1]),
@@ -917,11 +924,13 @@ def written_parts():
             ("object of 1025", item({**given, "o": "o" * 1025})),
             ("object is bytes", item({**given, "o": b"k"})),
             ("ULID with a small letter", item({**given, "v": ULID[:25] + "a"})),
+            *[("ULID " + name, item({**given, "v": ulid})) for name, ulid in BEYOND],
         ]:
             write(name, broken, 20)
         write("empty part, no room", b"", 20, room=0)
     write_version("d is nil", item({**map, "d": NIL}), 20)
-    for name, by in [("of 25 characters", ULID[:25]), ("with a small letter", ULID[:25] + "a")]:
+    short, small = ULID[:25], ULID[:25] + "a"
+    for name, by in [("of 25 characters", short), ("with a small letter", small), *BEYOND]:
         write_delete("??? " + name, item({**map, "???": by}), 20)
     write_delete("??? is bytes", item({**map, "???": OTHER.encode()}), 20)
 
@@ -938,7 +947,7 @@ def written_deletes():
         write_delete_of("object of %d" % n, Held(ULID, "herd", "o" * n), OTHER)
     for n in (1, 31, 32, 63):
         write_delete_of("bucket of %d" % n, Held(ULID, "b" * n, "k"), OTHER)
-    write_delete_of("longest identifier", Held("Z" * 26, "b" * 63, "o" * 1024), "Z" * 26)
+    write_delete_of("longest identifier", Held(OTHER, "b" * 63, "o" * 1024), OTHER)
     write_delete_of("bytes that are no UTF-8", Held(ULID, "\udcff\\", "\udcfe \0"), OTHER)
     for name, ulid in [*ULIDS[:-1], ("with byte B0", ULID[:25] + "\udcb0")]:
         write_delete_of("delete ULID " + name, HELD, ulid, 20)

@@ -11,7 +11,7 @@ pub const ULIDS: [&str; 5] = [
     "00000000000000000000000009",
     "0000000000000000000000000A",
     "7YF1QTCNCDN7FYSQFD2PFH2DCS",
-    "ZZZZZZZZZZZZZZZZZZZZZZZZZZ",
+    "7ZZZZZZZZZZZZZZZZZZZZZZZZZ",
 ];
 
 /// Names that a wrong split or a wrong comparison would mix up.
@@ -38,7 +38,9 @@ pub fn few_identifiers(random: &mut Random) -> Identifier {
 pub fn ulid(random: &mut Random) -> Vec<u8> {
     match random.once_in(2) {
         true => random.of(&ULIDS).into(),
-        false => (0..26).map(|_| random.of(ALPHABET)).collect(),
+        false => (0..26)
+            .map(|at| random.of(if at == 0 { &ALPHABET[..8] } else { ALPHABET }))
+            .collect(),
     }
 }
 

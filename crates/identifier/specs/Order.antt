@@ -16,11 +16,11 @@ less-irreflexive [] = refl
 less-irreflexive (x ∷ s) = rw (eq-eqb x x refl) (less-irreflexive s)
 
 -- the two ways in which a text is less
-data Lower (x y : ℕ) (s t : List ℕ) : Type 0 where
+pub data Lower (x y : ℕ) (s t : List ℕ) : Type 0 where
   first : x < y → Lower x y s t
   later : x ≡ y → less s t ≡ true → Lower x y s t
 
-lower : (x y : ℕ) (s t : List ℕ) → less (x ∷ s) (y ∷ t) ≡ true → Lower x y s t
+pub lower : (x y : ℕ) (s t : List ℕ) → less (x ∷ s) (y ∷ t) ≡ true → Lower x y s t
 unfolding less
 lower x y s t e = go (eqb x y) refl e
   where

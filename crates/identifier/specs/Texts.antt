@@ -1,13 +1,13 @@
 -- Texts as lists of bytes: a byte looked for, two texts compared.
 use Prim.Native.Nat.{ℕ, suc, _+_, _-_, _<_, _≤_, suc-le-suc}
-use mathlib.Core.Path.{_≡_, refl, ap}
+use mathlib.Core.Path.{_≡_, refl, sym, ap}
 use mathlib.Core.Bool.{Bool, true, false, cond, _&&_, _||_, true≢false}
 use mathlib.Core.List.{List, [], _∷_, _++_}
 use native.Mathlib.Nat.{le-refl, not-suc-le-zero, le-of-suc-le-suc}
 use native.Mathlib.Omega.{arith}
 use borrow.Author.Tests.{eqb-true, eq-eqb}
 use lib.Dec.{eqb, ltb}
-use lib.ListN.{length, take, drop}
+use lib.ListN.{length, getD, take, drop}
 
 -- x stands in the text
 unfoldable pub member : ℕ → List ℕ → Bool
@@ -82,6 +82,17 @@ before-split x (y ∷ s) h = go (eqb y x) refl h (before-split x s)
         → y ∷ s ≡ cond t [] (y ∷ before x s) ++ (x ∷ drop (suc (length (cond t [] (y ∷ before x s)))) (y ∷ s))
     go true e g r = ap (λ z. z ∷ s) (eqb-true y x e)
     go false e g r = ap (λ l. y ∷ l) (r (le-of-suc-le-suc g))
+
+-- where the text holds x, it is not the whole text, and x stands at its end
+pub before-found : (x : ℕ) (s : List ℕ) → member x s ≡ true → (length (before x s) < length s) × (getD s (length (before x s)) 0 ≡ x)
+unfolding member before
+before-found x [] e = absurd (true≢false (sym e))
+before-found x (y ∷ s) e = go (eqb y x) refl e (before-found x s)
+  where
+    go : (t : Bool) → eqb y x ≡ t → (t || member x s) ≡ true → (member x s ≡ true → (length (before x s) < length s) × (getD s (length (before x s)) 0 ≡ x))
+        → (length (cond t [] (y ∷ before x s)) < suc (length s)) × (getD (y ∷ s) (length (cond t [] (y ∷ before x s))) 0 ≡ x)
+    go true f m r = (omega arith, eqb-true y x f)
+    go false f m r = (suc-le-suc (r m .0), r m .1)
 
 pub before-append : (x : ℕ) (b o : List ℕ) → member x b ≡ false → before x (b ++ (x ∷ o)) ≡ b
 unfolding member before

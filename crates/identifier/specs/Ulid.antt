@@ -1,4 +1,4 @@
--- The ULID (document 01): 26 characters of an alphabet of 32, compared as bytes.
+-- The ULID (document 01): 26 characters of an alphabet of 32, compared as bytes. 26 would hold 130 bits, and a ULID has 128 (request 2).
 use Prim.Native.Nat.{ℕ, zero, suc, _+_, _-_, _<_}
 use mathlib.Core.Path.{_≡_, refl, sym, ap, _∙_, subst⁻¹}
 use mathlib.Core.Bool.{Bool, true, false, _&&_}
@@ -6,7 +6,7 @@ use mathlib.Core.List.{List, [], _∷_}
 use native.Mathlib.Nat.{not-suc-le-zero, le-of-suc-le-suc, lt-trans, le-of-lt, le-refl, add-suc, add-zero}
 use native.Mathlib.Omega.{arith}
 use borrow.Author.Tests.{eqb-true, ltb-true, ltb-false, lt-ltb, le-ltb}
-use lib.Dec.{eqb, ltb}
+use lib.Dec.{eqb, leb, ltb}
 use lib.ListN.{length, getD}
 use Rattle.slices.specs.Logic.{both}
 use Rattle.identifier.specs.Texts.{member, all}
@@ -21,13 +21,18 @@ alphabet =
 unfoldable pub isCharacter : ℕ → Bool
 isCharacter x = member x alphabet
 
--- which texts are ULIDs is said here and nowhere else
+-- which texts are ULIDs is said here and nowhere else: 26 characters, the first at most `7`
 unfoldable pub isUlid : List ℕ → Bool
-isUlid s = eqb (length s) 26 && all isCharacter s
+isUlid s = eqb (length s) 26 && all isCharacter s && leb (getD s 0 0) 0x37
+
+pub ulid-written : (s : List ℕ) → isUlid s ≡ true → (length s ≡ 26) × (all isCharacter s ≡ true)
+unfolding isUlid
+ulid-written s e =
+    let h = both (eqb (length s) 26) (all isCharacter s) (both (eqb (length s) 26 && all isCharacter s) (leb (getD s 0 0) 0x37) e .0) in
+    (eqb-true (length s) 26 (h .0), h .1)
 
 pub ulid-length : (s : List ℕ) → isUlid s ≡ true → length s ≡ 26
-unfolding isUlid
-ulid-length s e = eqb-true (length s) 26 (both (eqb (length s) 26) (all isCharacter s) e .0)
+ulid-length s e = ulid-written s e .0
 
 -- ---- the alphabet rises
 

@@ -62,6 +62,7 @@ fn is_character(x: u8) -> bool
         | is_between(x, b'V', b'Z')
 }
 
+// Characters, of which the first is at most `7`: 26 hold 130 bits, and a ULID has 128.
 pub fn is_ulid(s: &[u8]) -> bool
     ensures { λ r. ⌜ r ≡ isUlid (now (s .entry)) ⌝ }
 {
@@ -75,7 +76,7 @@ pub fn is_ulid(s: &[u8]) -> bool
         }
         i += 1;
     }
-    true
+    s[0] <= b'7'
 }
 
 // How many bytes stand before the first slash: all of them where there is none.

@@ -8,12 +8,12 @@ use mathlib.Core.Path.{_≡_, refl, sym, ap, subst, _∙_}
 use native.Mathlib.Omega.{arith}
 use borrow.Author.Tests.{lt-ltb, ltb-true, eqb-true, ne-eqb, not-true}
 use lib.Dec.{eqb, ltb}
-use lib.ListN.{length, drop}
+use lib.ListN.{drop}
 use Rattle.slices.specs.Logic.{either, clash, not-so, both}
 use Rattle.pack.specs.Reading.{records}
 use Rattle.identifier.specs.Texts.{member, all, less}
 use Rattle.identifier.specs.Order.{less-irreflexive, less-transitive}
-use Rattle.identifier.specs.Ulid.{alphabet, isCharacter, isUlid}
+use Rattle.identifier.specs.Ulid.{alphabet, isCharacter, isUlid, ulid-written}
 use Rattle.identifier.specs.Identity.{Identity, isBucket, isObject, isValid}
 use Rattle.identifier.specs.Held.{hasName}
 use Rattle.current_version.specs.Current.{Placed, valueOf, placed, Version, versionOf, filtered, best, isDeleted, isLive, current}
@@ -55,11 +55,10 @@ unfolding isCharacter alphabet all
 character-below x e = ltb-true x 0x5b (all-member (λ y. ltb y 0x5b) alphabet x refl e)
 
 pub ulid-below : (u : List ℕ) → isUlid u ≡ true → less u firstBound ≡ true
-unfolding isUlid all less
+unfolding all less
 ulid-below [] e = refl
 ulid-below (x ∷ u) e =
-    let h = both (eqb (length (x ∷ u)) 26) (isCharacter x && all isCharacter u) e in
-    let c = character-below x (both (isCharacter x) (all isCharacter u) (h .1) .0) in
+    let c = character-below x (both (isCharacter x) (all isCharacter u) (ulid-written (x ∷ u) e .1) .0) in
     let n : x ≡ 0x5b → ⊥ = λ q. omega arith in
     rw (ne-eqb x 0x5b n, lt-ltb x 0x5b c)
 

@@ -51,7 +51,7 @@ abbrev low : List ℕ
 low = repeated 26 0x30  -- 0
 
 abbrev high : List ℕ
-high = repeated 26 0x5a  -- Z
+high = 0x37 ∷ repeated 25 0x5a  -- 7Z..Z
 
 abbrev small : List ℕ
 small = repeated 26 0x7a  -- z, no character of a ULID

@@ -10,7 +10,7 @@ pub struct Identifier {
 }
 
 pub fn is_ulid(text: &[u8]) -> bool {
-    text.len() == 26 && text.iter().all(|byte| ALPHABET.contains(byte))
+    text.len() == 26 && text.iter().all(|byte| ALPHABET.contains(byte)) && text[0] <= b'7'
 }
 
 pub fn is_name(bucket: &[u8], object: &[u8]) -> bool {

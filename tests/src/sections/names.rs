@@ -79,6 +79,11 @@ pub fn ulids(compare: &mut Compare, random: &mut Random) {
     for length in [0, 1, 24, 25, 26, 27, 28, 52, 255, 256] {
         ulid(compare, &vec![b'0'; length]);
     }
+    // The greatest number of 128 bits, and the next.
+    for edge in ["7ZZZZZZZZZZZZZZZZZZZZZZZZZ", "80000000000000000000000000"] {
+        ulid(compare, edge.as_bytes());
+        handed_in(compare, format!("{edge}:herd/k").as_bytes());
+    }
     // The 27th byte is the colon.
     for at in 0..27 {
         for byte in 0..=255 {

@@ -1,18 +1,25 @@
--- Every byte passed is a character, so the rest decides.
+-- Every byte passed is a character, so the rest and the first byte decide.
 use borrow.Author.Needs.{needs}
 use Rattle.identifier.specs.Ulid.{isCharacter, isUlid}
 use Rattle.identifier.specs.Texts.{all}
 use Rattle.identifier.proofs.Loops.{all-fails, all-later, all-end}
 use borrow.Author.Tests.{eq-eqb, ne-eqb, not-true, not-false}
-use lib.ListN.{length, drop}
+use lib.Dec.{leb}
+use lib.ListN.{length, getD, drop}
 use native.Mathlib.Omega.{arith}
-use mathlib.Core.Path.{_≡_, sym, _∙_}
-use Prim.Native.Nat.{_-_, _≤_}
+use mathlib.Core.Path.{_≡_, sym, ap, _∙_}
+use mathlib.Core.Bool.{Bool, _&&_}
+use mathlib.Core.List.{List}
+use Prim.Native.Nat.{ℕ, _-_, _≤_}
 use Rattle.identifier.proofs.is_ulid.Statement.{statement}
 use Rattle.identifier.proofs.is_ulid.Tie as tie
 
+-- the rest, and the first byte
+abbrev withFirst : List ℕ → Bool → Bool
+withFirst s rest = rest && leb (getD s 0 0) 0x37
+
 abbrev Inv-loop : tie.InvT-loop
-Inv-loop s i₀ i = (i ≤ length s) × (isUlid s ≡ all isCharacter (drop i s))
+Inv-loop s i₀ i = (i ≤ length s) × (isUlid s ≡ withFirst s (all isCharacter (drop i s)))
 
 abbrev μ-loop : tie.MeasureT-loop
 μ-loop s i₀ i = length s - i
@@ -33,7 +40,8 @@ is-character-requires c κs = search needs
 
 returns-2 : tie.Need-returns-2 Inv-loop μ-loop
 returns-2 c = let l = c .before .before .before .before in
-    sym (l .loop .inv .1 ∙ all-fails (l .before .before .before .args .s .now) (l .loop .i) isCharacter (omega arith) (sym (c .before .is-character .ensures) ∙ not-true _ (c .if2 .taken)))
+    let s = l .before .before .before .args .s .now in
+    sym (l .loop .inv .1 ∙ ap (withFirst s) (all-fails s (l .loop .i) isCharacter (omega arith) (sym (c .before .is-character .ensures) ∙ not-true _ (c .if2 .taken))))
 
 add-i : tie.Need-add-i Inv-loop μ-loop
 add-i c = search needs
@@ -43,10 +51,16 @@ loop-less c = search needs
 
 loop-again : tie.Need-loop-again Inv-loop μ-loop
 loop-again c = let l = c .before .before .before .before in
-    (omega arith, l .loop .inv .1 ∙ all-later (l .before .before .before .args .s .now) (l .loop .i) isCharacter (omega arith) (sym (c .before .is-character .ensures) ∙ not-false _ (c .if2 .left)))
+    let s = l .before .before .before .args .s .now in
+    (omega arith, l .loop .inv .1 ∙ ap (withFirst s) (all-later s (l .loop .i) isCharacter (omega arith) (sym (c .before .is-character .ensures) ∙ not-false _ (c .if2 .left))))
+
+shared-slice-read-result : tie.Need-shared-slice-read-result Inv-loop μ-loop
+shared-slice-read-result c = search needs
 
 returns-3 : tie.Need-returns-3 Inv-loop μ-loop
-returns-3 c = sym (c .before .loop .inv .1 ∙ all-end _ (c .before .loop .i) _ (omega arith))
+returns-3 c = let l = c .before .before in
+    let s = l .before .before .before .args .s .now in
+    sym (l .loop .inv .1 ∙ ap (withFirst s) (all-end s (l .loop .i) isCharacter (omega arith)))
 
 pub is-ulid-spec : {M : Type 1} → statement M
 is-ulid-spec =
@@ -62,4 +76,5 @@ is-ulid-spec =
     add-i
     loop-less
     loop-again
+    shared-slice-read-result
     returns-3)
