@@ -1,6 +1,4 @@
 mod Places
-mod Roles
-mod Visits
 mod Comparisons
 mod Candidates
 mod Passes

@@ -20,7 +20,7 @@ use Rattle.current_version.specs.Current.{Placed, valueOf, placed, Version, ver
 use Rattle.current_version.specs.Roles.{version-told, version-role}
 use Rattle.current_version.specs.Best.{ulidOf, Passes, Best, best-member, best-greatest, best-same, best-none, best-found, found-best, none-best}
 use Rattle.current_version.specs.Exactly.{same-name, has-name}
-use Rattle.lookup.specs.Walk.{placedFrom}
+use Rattle.lookup_records.specs.Walk.{placedFrom}
 
 -- below a bound: of the versions of this name, deleted or not, the best; and the current one
 unfoldable pub isBelow : List ℕ → List ℕ → List ℕ → Identity → Bool

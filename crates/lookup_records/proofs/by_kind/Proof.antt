@@ -1,9 +1,9 @@
--- `lookup::by_kind` meets its contract, by the kind.
+-- `lookup_records::by_kind` meets its contract, by the kind.
 use borrow.Author.Needs.{needs}
 use mathlib.Core.Path.{sym, ap}
-use Rattle.lookup.specs.Answers.{roleFor}
-use Rattle.lookup.proofs.by_kind.Statement.{statement}
-use Rattle.lookup.proofs.by_kind.Tie as tie
+use Rattle.lookup_records.specs.Answers.{roleFor}
+use Rattle.lookup_records.proofs.by_kind.Statement.{statement}
+use Rattle.lookup_records.proofs.by_kind.Tie as tie
 
 enum-told : tie.Need-enum-told
 enum-told c = search needs
@@ -18,10 +18,10 @@ returns : tie.Need-returns
 returns c = search needs
 
 returns-2 : tie.Need-returns-2
-returns-2 c = sym (ap (roleFor _) (c .before .kind .given .1))
+returns-2 c = sym (ap (roleFor _ _) (c .before .kind .given .1))
 
 returns-3 : tie.Need-returns-3
-returns-3 c = sym (ap (roleFor _) (c .enum-told2 .given .1))
+returns-3 c = sym (ap (roleFor _ _) (c .enum-told2 .given .1))
 
 pub by-kind-spec : {M : Type 1} → statement M
 by-kind-spec =
