@@ -2,5 +2,8 @@ mod Places
 mod Comparisons
 mod Candidates
 mod Passes
+mod Stores
+mod Deletions
+mod Turns
 mod Searches
 mod Refusals

@@ -1,22 +1,26 @@
 -- What the answers of the code say: document 01's numbers, and the contents at the places told.
-use Prim.Native.Nat.{ℕ, _+_}
+use Prim.Native.Nat.{ℕ, _+_, _≤_}
+use mathlib.Core.Bool.{Bool, true, false, not, _&&_}
 use mathlib.Core.List.{List}
 use mathlib.Core.Option.{Option, none, some}
 use mathlib.Core.Path.{_≡_}
+use lib.ListN.{length}
 use Rattle.slices.specs.declared.Place.{Place}
 use Rattle.refusals.specs.Limit.{packLimit}
 use Rattle.tlv.specs.Found as tlv
 use Rattle.pack.specs.Reading.{Ending, whole, refused}
+use Rattle.identifier.specs.Identity.{Identity, identity}
 use Rattle.primary.specs.Answers.{textsIn}
 use Rattle.records.specs.Answers as records
 use Rattle.records.specs.Answers.{IsValue}
-use Rattle.current_version.specs.Current.{Placed, Version, Answer, nothing, found, refusedAt, alone, readability}
+use Rattle.current_version.specs.Current.{Placed, Version, Answer, nothing, found, refusedAt, alone, readability, best, deletes, isDeleted}
 use Rattle.lookup_records.specs.Answers.{roleIn, valueIn, VersionTold}
 use Rattle.lookup_records.specs.Walk.{placedFrom}
 use Rattle.lookup_records.specs.declared.Role.{Role}
 use Rattle.lookup_records.specs.declared.Role.the-variants as role-answer
 use Rattle.lookup_records.specs.declared.Visited.{Visited}
-use Rattle.lookup.specs.Search.{greatestBelow, firstBound}
+use Rattle.lookup.specs.Search.{isBelow, greatestBelow, firstBound, isAnyDeleted, Between}
+use Rattle.lookup.specs.Hints.{ulidAt, isShown, AllFirst}
 use Rattle.lookup.specs.declared.Version as declared-version
 use Rattle.lookup.specs.declared.Candidate.{Candidate}
 use Rattle.lookup.specs.declared.Candidate.the-variants as candidate-answer
@@ -24,6 +28,11 @@ use Rattle.lookup.specs.declared.Readable.{Readable}
 use Rattle.lookup.specs.declared.Readable.the-variants as readable-answer
 use Rattle.lookup.specs.declared.Surveyed.{Surveyed}
 use Rattle.lookup.specs.declared.Surveyed.the-variants as surveyed-answer
+use Rattle.lookup.specs.declared.Hint.{Hint}
+use Rattle.lookup.specs.declared.Hint.the-variants as hint-answer
+use Rattle.lookup.specs.declared.Noted.{Noted}
+use Rattle.lookup.specs.declared.Turn.{Turn}
+use Rattle.lookup.specs.declared.Turn.the-variants as turn-answer
 use Rattle.lookup.specs.declared.Found.{Found}
 use Rattle.lookup.specs.declared.Found.the-variants as found-answer
 
@@ -78,15 +87,63 @@ pub record FoundInside (s : List ℕ) (r : Found) : Type 0 where
 
 -- ---- all records of a checked pack
 
--- of the versions of this name, deleted or not, the greatest
-pub record IsGreatest (s bucket object : List ℕ) (c : Candidate) : Type 0 where
+-- of the versions of this name, deleted or not, the greatest; and whether a deletion has the name
+pub record IsGreatest (s bucket object : List ℕ) (c : Candidate) (deletions : Bool) : Type 0 where
   pub is : candidateIn s c ≡ greatestBelow (placedFrom packLimit s 0) bucket object firstBound
   pub inside : CandidateInside s c
+  pub deletions-is : deletions ≡ isAnyDeleted (placedFrom packLimit s 0) bucket object
 
 abbrev pub surveyEnding : Surveyed → Ending
 surveyEnding (surveyed-answer.Unreadable f at) = refused (records.numberOf f) at
-surveyEnding (surveyed-answer.Greatest c) = whole
+surveyEnding (surveyed-answer.Greatest c deletions) = whole
 
 pub record Surveys (s bucket object : List ℕ) (r : Surveyed) : Type 0 where
   pub ending : surveyEnding r ≡ readability (placedFrom packLimit s 0)
-  pub greatest : (c : Candidate) → r ≡ surveyed-answer.Greatest c → IsGreatest s bucket object c
+  pub greatest : (c : Candidate) (deletions : Bool) → r ≡ surveyed-answer.Greatest c deletions → IsGreatest s bucket object c deletions
+
+-- ---- hints: places of ULIDs of deletions of the name
+
+-- whether a version of the name with the ULID at a place is deleted
+unfoldable pub isDeletedAt : List ℕ → List ℕ → List ℕ → ℕ → Bool
+isDeletedAt s bucket object place = isDeleted (placedFrom packLimit s 0) (identity (ulidAt s place) bucket object)
+
+-- the hint that a record gives
+pub record IsHint (s bucket object : List ℕ) (r : Role) (h : Hint) : Type 0 where
+  pub told : (place : ℕ) → h ≡ hint-answer.At place → deletes (identity (ulidAt s place) bucket object) (roleIn s r) ≡ true
+
+-- one taken in, if there is one
+pub record TakenIn (h : Hint) (n : ℕ) (old : List ℕ) (r : ℕ) (new : List ℕ) : Type 0 where
+  pub within : r ≤ length new
+  pub long : length new ≡ length old
+  pub keeps : (p : ℕ → Bool) → ((place : ℕ) → h ≡ hint-answer.At place → p place ≡ true) → AllFirst p old n → AllFirst p new r
+
+-- all deletions: whether one is of the bound, and hints, each of which is true
+pub record Notes (s bucket object bound : List ℕ) (r : Noted) (hints : List ℕ) : Type 0 where
+  pub named : r .named ≡ isDeleted (placedFrom packLimit s 0) (identity bound bucket object)
+  pub within : r .count ≤ length hints
+  pub sound : AllFirst (isDeletedAt s bucket object) hints (r .count)
+
+-- no hint shows that it is deleted
+unfoldable pub isUnshown : List ℕ → List ℕ → ℕ → Identity → Bool
+isUnshown s hints n i = not (isShown s (i .ulid) hints n)
+
+unfoldable pub isUnshownBelow : List ℕ → List ℕ → List ℕ → List ℕ → List ℕ → ℕ → Identity → Bool
+isUnshownBelow s bucket object bound hints n i = isBelow bucket object bound i && isUnshown s hints n i
+
+-- ---- a turn of the search
+
+-- the next to look at: the best under some test that what is live and below the bound passes, and only what is below it
+pub record IsNext (s bucket object bound : List ℕ) (c : Candidate) : Type 0 where
+  pub test : Identity → Bool
+  pub between : Between (placedFrom packLimit s 0) bucket object bound test
+  pub is : candidateIn s c ≡ best test (placedFrom packLimit s 0)
+  pub inside : CandidateInside s c
+
+-- whether the version is deleted, and then the next one
+abbrev pub isGone : Turn → Bool
+isGone turn-answer.Live = false
+isGone (turn-answer.Below c) = true
+
+pub record Turns (s bucket object ulid : List ℕ) (r : Turn) : Type 0 where
+  pub gone : isGone r ≡ isDeleted (placedFrom packLimit s 0) (identity ulid bucket object)
+  pub next : (c : Candidate) → r ≡ turn-answer.Below c → IsNext s bucket object ulid c
