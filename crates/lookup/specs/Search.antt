@@ -203,7 +203,8 @@ module _ (ps : List Placed) (bucket object bound : List ℕ) where
   module _ (test : Identity → Bool) (between : Between ps bucket object bound test) where
     pub search-nothing : best test ps ≡ none → currentBelow ps bucket object bound ≡ none
     unfolding currentBelow
-    search-nothing e = none-best (liveBelow bound) ps (λ p v m o. best-none test ps e p v m (record { is = o .is; test-passed = between .wider (v .identifier) (o .test-passed) }))
+    search-nothing e = none-best (liveBelow bound) ps
+        (λ p v m o. best-none test ps e p v m (record { is = o .is; test-passed = between .wider (v .identifier) (o .test-passed) }))
 
     module _ (c : Version) (found : best test ps ≡ some c) where
       greatest : Best test ps c
@@ -233,9 +234,11 @@ module _ (ps : List Placed) (bucket object bound : List ℕ) where
       -- where one does, the current version is below it
       pub search-deleted : isDeleted ps (c .identifier) ≡ true → currentBelow ps bucket object bound ≡ currentBelow ps bucket object (ulidOf c)
       unfolding currentBelow isLiveBelow isBelow
-      search-deleted gone = best-same (liveBelow bound) (liveBelow (ulidOf c)) ps (λ p v m e. same-test (liveBelow bound (v .identifier)) (liveBelow (ulidOf c) (v .identifier)) (down p v m e) (up v))
+      search-deleted gone = best-same (liveBelow bound) (liveBelow (ulidOf c)) ps
+          (λ p v m e. same-test (liveBelow bound (v .identifier)) (liveBelow (ulidOf c) (v .identifier)) (down p v m e) (up v))
         where
-          down : (p : Placed) (v : Version) → List·Memᴰ p ps → versionOf p ≡ some v → liveBelow bound (v .identifier) ≡ true → liveBelow (ulidOf c) (v .identifier) ≡ true
+          down : (p : Placed) (v : Version) → List·Memᴰ p ps → versionOf p ≡ some v → liveBelow bound (v .identifier) ≡ true
+              → liveBelow (ulidOf c) (v .identifier) ≡ true
           down p v m e l =
               let b = live-below (v .identifier) l in
               let least = best-greatest test greatest p v m (record { is = e; test-passed = between .wider (v .identifier) l }) in
@@ -257,7 +260,8 @@ module _ (ps : List Placed) (bucket object bound : List ℕ) where
       pub search-falls : versionsBelow ps bucket object (ulidOf c) < versionsBelow ps bucket object bound
       unfolding versionsBelow isBelow
       search-falls =
-          fewer (isBelow bucket object (ulidOf c)) below smaller ps (greatest .at) c (best-member test greatest) (record { is = greatest .offers .is; test-passed = c-below })
+          fewer (isBelow bucket object (ulidOf c)) below smaller ps (greatest .at) c (best-member test greatest)
+          (record { is = greatest .offers .is; test-passed = c-below })
           (rw (less-irreflexive (ulidOf c)) (and-false (hasName (some (c .identifier)) bucket object)))
         where
           smaller : (i : Identity) → isBelow bucket object (ulidOf c) i ≡ true → below i ≡ true

@@ -1,10 +1,9 @@
 -- The places told of a record that was read: its primary part lies within its value, and its texts within that.
-use Prim.Native.Nat.{ℕ, _+_, _≤_}
-use mathlib.Core.Bool.{Bool, true}
+use Prim.Native.Nat.{ℕ}
+use mathlib.Core.Bool.{Bool}
 use mathlib.Core.List.{List}
 use mathlib.Core.Path.{_≡_, refl, sym, ap, subst, _∙_}
 use native.Mathlib.Omega.{arith}
-use lib.ListN.{length}
 use Rattle.slices.specs.Logic.{absurd-numbers}
 use Rattle.slices.specs.Places.{partAt, Within, within-inside, shiftPlace, shifted-within}
 use Rattle.slices.specs.declared.Place.{Place}
@@ -15,7 +14,7 @@ use Rattle.value.specs.declared.Told.{Told}
 use Rattle.primary.specs.Answers.{textsIn, AllInside}
 use Rattle.primary.specs.declared.Texts.{Texts}
 use Rattle.records.specs.Record as records
-use Rattle.records.specs.Record.{versionTag, readRecord, canBeRead, toldFrom, recordFrom, answerFrom}
+use Rattle.records.specs.Record.{versionTag, readRecord, canBeRead, partFrom, toldFrom, recordFrom, answerFrom}
 use Rattle.records.specs.Laws.{read-as}
 use Rattle.records.specs.Answers.{recordIn, placeOfPart, PlacesInside}
 use Rattle.records.specs.declared.Fault.{Fault}
@@ -73,19 +72,26 @@ module _ (s : List ℕ) (value : Place) where
       unfolding canBeRead
       version-told deleted role-is =
           let tag-is = version-role packLimit tag (partAt s value) (textsIn s (d .identifier)) deleted role-is .tag-is in
+          let version-read : readRecord packLimit versionTag (partAt s value) ≡ result x = ap (λ n. readRecord packLimit n (partAt s value)) (sym tag-is) ∙ read in
           record {
-            readable = ap (λ n. isResult (readRecord packLimit n (partAt s value))) (sym tag-is) ∙ ap isResult read;
+            readable = ap isResult version-read;
+            primary-is = λ r e.
+                let both : result x ≡ result r = sym version-read ∙ e in
+                let same : x ≡ r = cc in
+                ap (λ (t : Told). placeOfPart (t .primary)) told ∙ ap (λ (y : records.Record). placeOfPart (partFrom (value .start) (y .told .primary))) same;
             primary-within = primary-within;
             identifier = record { ulid = h .contents .ulid; bucket = h .contents .bucket; object = h .contents .object };
           }
 
-      by-kind : (k : Kind) → roleIn s (roleFor primary (d .identifier) k) ≡ current.role packLimit tag (partAt s value) → RoleInside s value (roleFor primary (d .identifier) k)
+      by-kind : (k : Kind) → roleIn s (roleFor primary (d .identifier) k) ≡ current.role packLimit tag (partAt s value)
+          → RoleInside s value (roleFor primary (d .identifier) k)
       by-kind kind-answer.Block e = other-inside
       by-kind (kind-answer.Version deleted) e = version-inside primary (d .identifier) deleted (version-told deleted (sym e))
       by-kind (kind-answer.VersionDelete id) e = deletion-inside (d .identifier) texts-inside
 
     pub role-inside : result (recordIn s d) ≡ answerFrom (value .start) (readRecord packLimit tag (partAt s value))
-        → roleIn s (roleFor primary (d .identifier) (d .kind)) ≡ current.role packLimit tag (partAt s value) → RoleInside s value (roleFor primary (d .identifier) (d .kind))
+        → roleIn s (roleFor primary (d .identifier) (d .kind)) ≡ current.role packLimit tag (partAt s value)
+        → RoleInside s value (roleFor primary (d .identifier) (d .kind))
     role-inside read e = by (readRecord packLimit tag (partAt s value)) refl read
       where
         by : (a : Answer records.Record) → readRecord packLimit tag (partAt s value) ≡ a → result (recordIn s d) ≡ answerFrom (value .start) a

@@ -7,13 +7,14 @@ use lib.Dec.{eqb}
 use lib.ListN.{take, drop}
 use Rattle.slices.specs.Places.{partAt, Within}
 use Rattle.slices.specs.declared.Place.{Place}
+use Rattle.refusals.specs.Answers.{result}
 use Rattle.refusals.specs.Limit.{packLimit}
 use Rattle.tlv.specs.Passing.{passAt}
 use Rattle.tlv.specs.declared.Passed.{Passed}
 use Rattle.primary.specs.Answers.{textsIn, AllInside}
 use Rattle.primary.specs.declared.Texts.{Texts}
-use Rattle.records.specs.Record.{versionTag, canBeRead}
-use Rattle.records.specs.Answers.{numberOf}
+use Rattle.records.specs.Record.{versionTag, Record, readRecord, canBeRead, partFrom}
+use Rattle.records.specs.Answers.{numberOf, placeOfPart}
 use Rattle.records.specs.declared.Kind.{Kind}
 use Rattle.records.specs.declared.Kind.the-variants as kind-answer
 use Rattle.current_version.specs.Current as current
@@ -56,9 +57,10 @@ pub record TextsWithin (outer : Place) (t : Texts) : Type 0 where
   pub bucket : Within outer (t .bucket)
   pub object : Within outer (t .object)
 
--- of a version whose value stands at a place
+-- of a version whose value stands at a place: the primary part is the one that the value tells
 pub record VersionTold (s : List ℕ) (value primary : Place) (t : Texts) : Type 0 where
   pub readable : canBeRead packLimit versionTag (partAt s value) ≡ true
+  pub primary-is : (r : Record) → readRecord packLimit versionTag (partAt s value) ≡ result r → primary ≡ placeOfPart (partFrom (value .start) (r .told .primary))
   pub primary-within : Within value primary
   pub identifier : TextsWithin primary t
 

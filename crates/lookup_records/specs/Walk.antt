@@ -9,7 +9,7 @@ use Rattle.slices.specs.declared.Place.{Place}
 use Rattle.refusals.specs.Limit.{packLimit}
 use Rattle.tlv.specs.Found.{Found, end, found, fault, step, step-none, step-end}
 use Rattle.tlv.specs.Stands.{step-stands}
-use Rattle.tlv.specs.Passing.{passAt, pass-found}
+use Rattle.tlv.specs.Passing.{pass-found}
 use Rattle.tlv.specs.declared.Passed.{Passed}
 use Rattle.pack.specs.Reading.{Reading, whole, refused, records, reading, records-end, records-fault, records-on}
 use Rattle.pack.specs.Acceptance.{accepted-reading}
@@ -61,7 +61,8 @@ walk-on skipped s at v e h visits = go (step (drop at s)) refl
         let stands = step-stands (drop at s) d there in
         let passed = pass-found s at d there in
         let behind : at + 32 + d .length - d .length ≡ at + 32 = omega arith in
-        let value-is : v .value ≡ record { start = at + 32; len = d .length } = visits .value-is ∙ ap valuePlace passed ∙ ap (λ n. record { start = n; len = d .length }) behind in
+        let value-is : v .value ≡ record { start = at + 32; len = d .length }
+        = visits .value-is ∙ ap valuePlace passed ∙ ap (λ n. record { start = n; len = d .length }) behind in
         let len : v .value .len ≡ d .length = ap (λ (p : Place). p .len) value-is in
         let next : v .next ≡ at + 32 + d .length = visits .next-is ∙ ap (λ (p : Passed). p .next) passed in
         let within : at + 32 + d .length ≤ length s = omega (arith, length-drop at s, stands .long) in
