@@ -1,6 +1,6 @@
 -- What the code that writes and looks up answers, for every input, and demand 3 of these answers.
 use Prim.Native.Nat.{ℕ, _≤_}
-use mathlib.Core.Bool.{true}
+use mathlib.Core.Bool.{Bool, true, cond}
 use mathlib.Core.List.{List}
 use mathlib.Core.Option.{Option}
 use mathlib.Core.Path.{_≡_}
@@ -8,10 +8,10 @@ use lib.ListN.{length, take}
 use Rattle.refusals.specs.Answers as refusals
 use Rattle.refusals.specs.Limit.{packLimit}
 use Rattle.refusals.specs.Answers.{result}
-use Rattle.writer.specs.Writing.{Item, written, bufferAfter}
+use Rattle.writer.specs.Writing.{Item, answerOf, written, bufferAfter}
 use Rattle.writer.specs.declared.Written.{Written}
 use Rattle.writer.specs.declared.Written.the-variants.{Count}
-use Rattle.current_version.specs.Current.{Answer, isName, lookup}
+use Rattle.current_version.specs.Current.{Answer, refusedAt, isName, lookup}
 use Rattle.current_version.specs.Packs.{ReadablePack, SameAnswer}
 use Rattle.current_version.specs.Bytes.{SameRecordsIn, OneValueIn}
 use Rattle.lookup.specs.Answers.{foundOf, FoundInside}
@@ -38,6 +38,11 @@ abbrev pub afterwards : List ℕ → List ℕ → List ℕ → (refusals.Answer 
 afterwards buf bucket object (result n) = looked-up n (lookup packLimit (take n buf) bucket object)
 afterwards buf bucket object (refusals.refused n) = refused n
 
+-- the writer's call, made only where the name is admissible: document 01 tests 20 first
+pub record WritesFor (admissible : Bool) (used : ℕ) (asked : Option Item) (before : List ℕ) (w : Written) (after : List ℕ) : Type 0 where
+  pub answer : answerOf w ≡ cond admissible (written packLimit (length before) used asked) (refusals.refused 20)
+  pub buffer : after ≡ cond admissible (bufferAfter packLimit used asked before) before
+
 -- a count lies in the buffer
 pub record CountInside (buf : List ℕ) (w : Written) : Type 0 where
   pub inside : (n : ℕ) → w ≡ Count n → n ≤ length buf
@@ -46,17 +51,29 @@ pub record CountInside (buf : List ℕ) (w : Written) : Type 0 where
 pub record DeletionInside (buf : List ℕ) (r : Deletion) : Type 0 where
   pub inside : (n : ℕ) (f : Found) → r ≡ LookedUp n f → FoundInside (take n buf) f
 
+-- the lookup refuses when the deletion has been written, for what stood before it: the deletion stands written
+pub record StandsWritten (used n number place : ℕ) (asked : Option Item) (before bucket object after : List ℕ) : Type 0 where
+  pub refuses : lookup packLimit (take n after) bucket object ≡ refusedAt number place
+  pub counted : written packLimit (length before) used asked ≡ result n
+  pub buffer : after ≡ bufferAfter packLimit used asked before
+  -- the front before was not accepted, or some `vr` or `vd` record of it could not be read
+  pub damaged : ReadablePack packLimit (take used before) → ⊥
+
 -- of a call that is asked to add a `vd` after the first `used` bytes
 pub record DeletionHolds (used : ℕ) (asked : Option Item) (before bucket object : List ℕ) (r : Deletion) (after : List ℕ) : Type 0 where
-  pub answers : answersOf after r ≡ afterwards after bucket object (written packLimit (length before) used asked)
-  pub buffer : after ≡ bufferAfter packLimit used asked before
+  pub answers : answersOf after r
+      ≡ afterwards after bucket object (cond (isName bucket object) (written packLimit (length before) used asked) (refusals.refused 20))
+  pub buffer : after ≡ cond (isName bucket object) (bufferAfter packLimit used asked before) before
   pub found-inside : DeletionInside after r
-  -- where the writer adds it, the front is as long as was told
+  -- where the writer adds it, the name is admissible and the front is as long as was told
+  pub named : (n : ℕ) (f : Found) → r ≡ LookedUp n f → isName bucket object ≡ true
   pub told-inside : (n : ℕ) (f : Found) → r ≡ LookedUp n f → used ≤ length before
   -- demand 3: and where this front is accepted and its `vr` and `vd` records can all be read, the answer for an object is that for the
   -- front with all `vr` records of the identifier taken out
-  pub takes-out : (n : ℕ) (f : Found) → r ≡ LookedUp n f → ReadablePack packLimit (take used before) → isName bucket object ≡ true
+  pub takes-out : (n : ℕ) (f : Found) → r ≡ LookedUp n f → ReadablePack packLimit (take used before)
       → TakesOut packLimit asked (take used before) bucket object (foundOf (take n after) f)
+  pub stands-written : (n : ℕ) (f : Found) (number place : ℕ) → r ≡ LookedUp n f → foundOf (take n after) f ≡ refusedAt number place
+      → StandsWritten used n number place asked before bucket object after
 
 -- ---- a lookup in two packs
 

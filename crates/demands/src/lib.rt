@@ -4,7 +4,8 @@ ghost use mathlib.Core.Path.{_≡_};
 ghost use mathlib.Core.Option.{some};
 ghost use Rattle.identifier.specs.Held.{named};
 ghost use Rattle.writer.specs.Writing.{versionDelete, deletion, ofIdentity, answerOf};
-ghost use Rattle.demands.specs.Answers.{answersOf, afterwards, CountInside, DeletionInside, DeletionHolds, OrderHolds};
+ghost use Rattle.current_version.specs.Current.{isName};
+ghost use Rattle.demands.specs.Answers.{answersOf, afterwards, WritesFor, CountInside, DeletionInside, DeletionHolds, OrderHolds};
 use identifier::Identifier;
 use lookup::Found;
 use writer::Written;
@@ -16,8 +17,40 @@ pub enum Deletion {
     LookedUp(usize, Found),
     // The buffer is too short: refusal 19.
     Short,
-    // The record is not admitted, or the pack would be above the limit: refusal 20.
+    // The name or the record is not admitted, or the pack would be above the limit: refusal 20.
     Inadmissible,
+}
+
+fn is_name(bucket: &[u8], object: &[u8]) -> bool
+    ensures { λ r. ⌜ r ≡ isName (now (bucket .entry)) (now (object .entry)) ⌝ }
+{
+    identifier::is_bucket(bucket) & identifier::is_object(object)
+}
+
+// The writer's two calls, where the name is admissible; else nothing is written.
+fn write_part(buf: &mut [u8], used: usize, part: &[u8], admissible: bool) -> Written
+    ensures { λ r. ⌜ WritesFor admissible used (some (versionDelete (now (part .entry)))) (now (buf .entry)) r (now (buf .exit)) ⌝ }
+{
+    if !admissible {
+        return Written::Inadmissible;
+    }
+    writer::write_delete(buf, used, part)
+}
+
+fn write_made(
+    buf: &mut [u8],
+    used: usize,
+    id: Identifier,
+    deleteid: &[u8],
+    admissible: bool,
+) -> Written
+    ensures { λ r. ⌜ WritesFor admissible used (ofIdentity (λ i. deletion i (now (deleteid .entry))) (named id)) (now (buf .entry)) r
+        (now (buf .exit)) ⌝ }
+{
+    if !admissible {
+        return Written::Inadmissible;
+    }
+    writer::write_delete_of(buf, used, id, deleteid)
 }
 
 // The lookup, where the writer returned a count.
@@ -44,7 +77,7 @@ pub fn delete_then_look_up(
     ensures { λ r. ⌜ DeletionHolds used (some (versionDelete (now (part .entry)))) (now (buf .entry)) (now (bucket .entry))
         (now (object .entry)) r (now (buf .exit)) ⌝ }
 {
-    let written = writer::write_delete(buf, used, part);
+    let written = write_part(buf, used, part, is_name(bucket, object));
     look_up(buf, written, bucket, object)
 }
 
@@ -60,7 +93,7 @@ pub fn delete_version_then_look_up(
     ensures { λ r. ⌜ DeletionHolds used (ofIdentity (λ i. deletion i (now (deleteid .entry))) (named id)) (now (buf .entry))
         (now (bucket .entry)) (now (object .entry)) r (now (buf .exit)) ⌝ }
 {
-    let written = writer::write_delete_of(buf, used, id, deleteid);
+    let written = write_made(buf, used, id, deleteid, is_name(bucket, object));
     look_up(buf, written, bucket, object)
 }
 
