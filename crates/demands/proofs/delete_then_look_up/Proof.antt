@@ -28,7 +28,7 @@ returns c =
     let written = c .before .before .before .before .write-part in
     let after : AllBytes (written .last .0) = record { below = λ k. c .before .before .slice-known2 .given k .fits } in
     deletion-holds _ _ _ _ _ _ _ refl after (written .result) (rw (c .before .before .before .before .before .is-name .ensures) at (written .ensures))
-        (c .look-up .ensures .0) (c .look-up .ensures .1)
+    (c .look-up .ensures .0) (c .look-up .ensures .1)
 
 pub delete-then-look-up-spec : {M : Type 1} → statement M
 delete-then-look-up-spec =
