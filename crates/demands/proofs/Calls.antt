@@ -1,4 +1,4 @@
--- What the writer and the lookup ensure of one call each, together: demand 3, deletion.
+-- What the writer ensures of a call and another function of the front that it leaves, together; and of the lookup: demand 3, deletion.
 use Prim.Native.Nat.{ℕ, _≤_}
 use mathlib.Core.Bool.{Bool, true, false, cond}
 use mathlib.Core.List.{List}
@@ -21,11 +21,37 @@ use Rattle.current_version.specs.Current.{Answer, refusedAt, isName, lookup}
 use Rattle.current_version.specs.Packs.{ReadablePack, SameAnswer}
 use Rattle.lookup.specs.Answers.{foundOf, FoundInside}
 use Rattle.lookup.specs.declared.Found.{Found}
-use Rattle.demands.specs.Added.{told-inside}
 use Rattle.demands.specs.Deletion.{TakesOut, deletion-takes-out}
-use Rattle.demands.specs.Answers.{looked-up, answersOf, afterwards, WritesFor, CountInside, DeletionInside, DeletionHolds}
+use Rattle.demands.specs.Answers.{counted, ofFront, answersOf, lookedUp, WritesFor, CountInside, DeletionInside, DeletionHolds}
 use Rattle.demands.specs.declared.Deletion.{Deletion}
 use Rattle.demands.specs.declared.Deletion.the-variants.{LookedUp, Short, Inadmissible}
+
+-- ---- what is told of the front, where the writer returned a count
+
+pub record OfFront {A : Type 0} (tell : List ℕ → A) (after : List ℕ) (a : refusals.Answer ℕ) (n : ℕ) (x : A) : Type 0 where
+  pub answered : a ≡ result n
+  pub told : x ≡ tell (take n after)
+
+pub of-front : {A : Type 0} (tell : List ℕ → A) (after : List ℕ) (a : refusals.Answer ℕ) (n : ℕ) (x : A)
+    → counted n x ≡ ofFront tell after a → OfFront tell after a n x
+of-front tell after (result m) n x e = record { answered = cc; told = cc }
+of-front tell after (refusals.refused m) n x e = absurd-numbers (cc)
+
+-- the count, and the bytes so far, lie in the buffer
+pub record Within (used n : ℕ) (before : List ℕ) : Type 0 where
+  pub so-far : used ≤ length before
+  pub count : n ≤ length before
+
+pub within : (used n : ℕ) (asked : Option Item) (before : List ℕ) → written packLimit (length before) used asked ≡ result n → Within used n before
+unfolding written
+within used n none before e = absurd-numbers (cc)
+within used n (some item) before e =
+    let w = written-exactly packLimit (length before) used item n .0 e in record { so-far = omega arith; count = omega arith }
+
+pub count-inside : (used : ℕ) (asked : Option Item) (before after : List ℕ) (w : Written) → answerOf w ≡ written packLimit (length before) used asked
+    → length after ≡ length before → CountInside after w
+count-inside used asked before after w e same =
+    record { inside = λ n is. omega (arith, within used n asked before (sym e ∙ ap answerOf is) .count) }
 
 -- ---- the writer's call, only for a name that is admissible
 
@@ -59,23 +85,13 @@ pub asks-deletion : (u : List ℕ) (o : Option Identity) → AsksDelete (ofIdent
 asks-deletion u none = tt
 asks-deletion u (some i) = refl
 
--- of a call that returned a count
-record Counted (used n : ℕ) (asked : Option Item) (before : List ℕ) : Type 0 where
-  inside : n ≤ length before
-  told : used ≤ length before
-  takes-out : (bucket object : List ℕ) → AsksDelete asked → AllBytes (bufferAfter packLimit used asked before) → ReadablePack packLimit (take used before) → isName bucket object ≡ true
-      → TakesOut packLimit asked (take used before) bucket object (lookup packLimit (take n (bufferAfter packLimit used asked before)) bucket object)
-
-counted : (used n : ℕ) (asked : Option Item) (before : List ℕ) → written packLimit (length before) used asked ≡ result n → Counted used n asked before
+count-takes-out : (used n : ℕ) (asked : Option Item) (before : List ℕ) → written packLimit (length before) used asked ≡ result n
+    → (bucket object : List ℕ) → AsksDelete asked → AllBytes (bufferAfter packLimit used asked before)
+    → ReadablePack packLimit (take used before) → isName bucket object ≡ true
+    → TakesOut packLimit asked (take used before) bucket object (lookup packLimit (take n (bufferAfter packLimit used asked before)) bucket object)
 unfolding written
-counted used n none before e = absurd-numbers (cc)
-counted used n (some item) before e =
-    let w = written-exactly packLimit (length before) used item n .0 e in
-    record {
-      inside = omega arith;
-      told = told-inside packLimit (omega arith) item used n before e;
-      takes-out = deletion-takes-out packLimit (omega arith) item used n before e;
-    }
+count-takes-out used n none before e = absurd-numbers (cc)
+count-takes-out used n (some item) before e = deletion-takes-out packLimit (omega arith) item used n before e
 
 module _ (used : ℕ) (asked : Option Item) (before after : List ℕ) where
   record Counts (name : Bool) (n : ℕ) : Type 0 where
@@ -86,58 +102,52 @@ module _ (used : ℕ) (asked : Option Item) (before after : List ℕ) where
   counts true n e = record { named = refl; wrote = e }
   counts false n e = absurd-numbers (cc)
 
-  pub count-inside : {name : Bool} {w : Written} → WritesFor name used asked before w after → length after ≡ length before → CountInside after w
-  count-inside {name} h same = record { inside = λ n is. omega (arith, counted used n asked before (counts name n (sym (h .answer) ∙ ap answerOf is) .wrote) .inside) }
+  pub deletion-inside : {name : Bool} {w : Written} → WritesFor name used asked before w after → length after ≡ length before → CountInside after w
+  deletion-inside {name} h same =
+      record { inside = λ n is. omega (arith, within used n asked before (counts name n (sym (h .answer) ∙ ap answerOf is) .wrote) .count) }
 
   module _ (bucket object : List ℕ) (r : Deletion) where
     abbrev answer : refusals.Answer ℕ
     answer = cond (isName bucket object) (written packLimit (length before) used asked) (refusals.refused 20)
 
-    record LooksUp (n : ℕ) (x : Answer) : Type 0 where
-      answered : answer ≡ result n
-      found : x ≡ lookup packLimit (take n after) bucket object
-
-    looks-up : (n : ℕ) (x : Answer) (a : refusals.Answer ℕ) → answer ≡ a → looked-up n x ≡ afterwards after bucket object a → LooksUp n x
-    looks-up n x (result m) p e = record { answered = cc; found = cc }
-    looks-up n x (refusals.refused m) p e = absurd-numbers (cc)
-
     no-refusal : (number place : ℕ) (a b : Answer) → a ≡ refusedAt number place → SameAnswer a b → ⊥
     no-refusal number place a b e s = subst (λ x. SameAnswer x b) e s
 
     pub deletion-holds : AsksDelete asked → AllBytes after → (w : Written) → WritesFor (isName bucket object) used asked before w after
-        → answersOf after r ≡ afterwards after bucket object (answerOf w) → DeletionInside after r → DeletionHolds used asked before bucket object r after
+        → answersOf after r ≡ lookedUp after bucket object (answerOf w) → DeletionInside after r
+        → DeletionHolds used asked before bucket object r after
     deletion-holds vd all w wrote found inside =
         record {
           answers = answers;
           buffer = wrote .buffer;
           found-inside = inside;
-          named = λ n f is. counted-at n f is .named;
-          told-inside = λ n f is. counted used n asked before (counted-at n f is .wrote) .told;
+          named = λ n f is. count n f is .named;
+          told-inside = λ n f is. within used n asked before (count n f is .wrote) .so-far;
           takes-out = takes-out;
           stands-written = λ n f number place is refuses.
               record {
-                refuses = sym (there n f is .found) ∙ refuses;
-                counted = counted-at n f is .wrote;
+                refuses = sym (there n f is .told) ∙ refuses;
+                counted = count n f is .wrote;
                 buffer = stored n f is;
                 damaged = λ readable. no-refusal number place _ _ refuses (takes-out n f is readable .same);
               };
         }
       where
-        answers : answersOf after r ≡ afterwards after bucket object answer
-        answers = found ∙ ap (afterwards after bucket object) (wrote .answer)
+        answers : answersOf after r ≡ lookedUp after bucket object answer
+        answers = found ∙ ap (lookedUp after bucket object) (wrote .answer)
 
-        there : (n : ℕ) (f : Found) → r ≡ LookedUp n f → LooksUp n (foundOf (take n after) f)
-        there n f is = looks-up n (foundOf (take n after) f) answer refl (ap (answersOf after) (sym is) ∙ answers)
+        there : (n : ℕ) (f : Found) → r ≡ LookedUp n f → OfFront (λ s. lookup packLimit s bucket object) after answer n (foundOf (take n after) f)
+        there n f is = of-front (λ s. lookup packLimit s bucket object) after answer n _ (ap (answersOf after) (sym is) ∙ answers)
 
-        counted-at : (n : ℕ) (f : Found) → r ≡ LookedUp n f → Counts (isName bucket object) n
-        counted-at n f is = counts (isName bucket object) n (there n f is .answered)
+        count : (n : ℕ) (f : Found) → r ≡ LookedUp n f → Counts (isName bucket object) n
+        count n f is = counts (isName bucket object) n (there n f is .answered)
 
         stored : (n : ℕ) (f : Found) → r ≡ LookedUp n f → after ≡ bufferAfter packLimit used asked before
-        stored n f is = wrote .buffer ∙ ap (λ b. cond b (bufferAfter packLimit used asked before) before) (counted-at n f is .named)
+        stored n f is = wrote .buffer ∙ ap (λ b. cond b (bufferAfter packLimit used asked before) before) (count n f is .named)
 
         takes-out : (n : ℕ) (f : Found) → r ≡ LookedUp n f → ReadablePack packLimit (take used before)
             → TakesOut packLimit asked (take used before) bucket object (foundOf (take n after) f)
         takes-out n f is readable =
-            let c = counted-at n f is in
-            rw (there n f is .found, stored n f is)
-            (counted used n asked before (c .wrote) .takes-out bucket object vd (subst AllBytes (stored n f is) all) readable (c .named))
+            let c = count n f is in
+            rw (there n f is .told, stored n f is)
+            (count-takes-out used n asked before (c .wrote) bucket object vd (subst AllBytes (stored n f is) all) readable (c .named))

@@ -7,12 +7,12 @@ use mathlib.Core.Option.{some}
 use mathlib.Core.Path.{_≡_, sym, ap, subst, subst₂, _∙_}
 use native.Mathlib.Nat.{zero-add}
 use native.Mathlib.Omega.{arith}
-use lib.ListN.{length, take, length-append}
-use lib.Seq.{length-take-le, take-append-seam, drop-append-seam}
+use lib.ListN.{length, take, drop, length-append}
+use lib.Seq.{length-take-le, drop-drop, drop-at, take-append-seam, drop-append-seam}
 use Rattle.slices.specs.Bytes.{AllBytes, tail-bytes, take-bytes, drop-bytes}
 use Rattle.slices.specs.Overwriting.{take-overwritten}
 use Rattle.refusals.specs.Answers.{result}
-use Rattle.tlv.specs.Layout.{Record, Fits, head, layout, layouts, length-layout}
+use Rattle.tlv.specs.Layout.{Record, Fits, head, layout, layouts, length-head, length-layout}
 use Rattle.pack.specs.declared.Entry.{Entry}
 use Rattle.pack.specs.Reading.{Reading, whole, reading, shift}
 use Rattle.pack.specs.Acceptance.{AllFit, entryOf, entriesOf, after, layouts-accepted, accepted-layouts, behind}
@@ -148,6 +148,14 @@ module _ (limit : ℕ) (small : limit < 2 ^ 32) (item : Item) (used n : ℕ) (bu
 
   pub value-within : length (valueOf item) ≤ limit
   value-within = omega (arith, total, length-append (take used buf) (itemBytes item), length-layout (recordFor item))
+
+  -- the value is what stands behind the header, to the end of the front
+  pub value-last : drop (used + 32) (take n (bufferAfter limit used (some item) buf)) ≡ valueOf item
+  unfolding layout
+  value-last =
+      let r = recordFor item in
+      rw record-appended (sym (drop-drop 32 used (take used buf ++ itemBytes item))
+      ∙ ap (drop 32) (drop-at (take used buf) (itemBytes item) used (length-take-le used buf told-inside)) ∙ drop-at (head r) (r .value) 32 (length-head r))
 
   -- what holds of every slice: it is bytes
   module _ (all : AllBytes (bufferAfter limit used (some item) buf)) where

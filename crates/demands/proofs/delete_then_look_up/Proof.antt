@@ -4,7 +4,7 @@ use mathlib.Core.Path.{refl}
 use borrow.Author.Needs.{needs}
 use Rattle.slices.specs.Bytes.{AllBytes}
 use Rattle.writer.specs.Writing.{versionDelete}
-use Rattle.demands.proofs.Calls.{count-inside, deletion-holds}
+use Rattle.demands.proofs.Calls.{deletion-inside, deletion-holds}
 use Rattle.demands.proofs.delete_then_look_up.Statement.{statement}
 use Rattle.demands.proofs.delete_then_look_up.Tie as tie
 
@@ -18,7 +18,7 @@ look-up-requires : tie.Need-look-up-requires
 look-up-requires c κs =
     let written = c .before .before .before .write-part in
     let start = c .before .before .before .before .before .before .before .before .before .before in
-    count-inside (start .args .used) (some (versionDelete (start .args .part .now))) (start .args .buf .now) _ (written .ensures) (written .kept .0)
+    deletion-inside (start .args .used) (some (versionDelete (start .args .part .now))) (start .args .buf .now) _ (written .ensures) (written .kept .0)
 
 same-length : tie.Need-same-length
 same-length c = search needs

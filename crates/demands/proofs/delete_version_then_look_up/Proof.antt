@@ -3,7 +3,7 @@ use borrow.Author.Needs.{needs}
 use Rattle.slices.specs.Bytes.{AllBytes}
 use Rattle.identifier.specs.Held.{named}
 use Rattle.writer.specs.Writing.{deletion, ofIdentity}
-use Rattle.demands.proofs.Calls.{asks-deletion, count-inside, deletion-holds}
+use Rattle.demands.proofs.Calls.{asks-deletion, deletion-inside, deletion-holds}
 use Rattle.demands.proofs.delete_version_then_look_up.Statement.{statement}
 use Rattle.demands.proofs.delete_version_then_look_up.Tie as tie
 
@@ -17,7 +17,7 @@ look-up-requires : tie.Need-look-up-requires
 look-up-requires c κs =
     let written = c .before .before .before .write-made in
     let start = c .before .before .before .before .before .before .before .before .before .before in
-    count-inside (start .args .used) (ofIdentity (λ i. deletion i (start .args .deleteid .now)) (named (start .args .id))) (start .args .buf .now) _ (written .ensures) (written .kept .0)
+    deletion-inside (start .args .used) (ofIdentity (λ i. deletion i (start .args .deleteid .now)) (named (start .args .id))) (start .args .buf .now) _ (written .ensures) (written .kept .0)
 
 same-length : tie.Need-same-length
 same-length c = search needs
