@@ -1,5 +1,5 @@
 -- What the writer and the reading ensure of one call each, together: demand 2, read-back.
-use Prim.Native.Nat.{ℕ, _+_, _≤_}
+use Prim.Native.Nat.{ℕ, _+_}
 use mathlib.Core.List.{List}
 use mathlib.Core.Option.{Option, none, some}
 use mathlib.Core.Path.{_≡_, refl, sym, ap, subst, _∙_}
@@ -8,7 +8,6 @@ use lib.ListN.{length, take, drop}
 use lib.Seq.{drop-drop}
 use Rattle.slices.specs.Bytes.{AllBytes}
 use Rattle.slices.specs.Logic.{absurd-numbers}
-use Rattle.slices.specs.Places.{partAt}
 use Rattle.refusals.specs.Limit.{packLimit}
 use Rattle.refusals.specs.Answers.{result}
 use Rattle.value.specs.Header.{tellingOf}
@@ -108,5 +107,6 @@ module _ (used : ℕ) (asked : Option Item) (before after : List ℕ) (r : ReadB
       answers : readBackOf after r ≡ readThere used after (written packLimit (length before) used asked)
       answers = told ∙ ap (readThere used after) wrote
 
-      there-is : (n : ℕ) (p : declared-place.AtPlace) → r ≡ Read n p → OfFront tell after (written packLimit (length before) used asked) n (placeOf (take n after) p)
+      there-is : (n : ℕ) (p : declared-place.AtPlace) → r ≡ Read n p
+          → OfFront tell after (written packLimit (length before) used asked) n (placeOf (take n after) p)
       there-is n p is = of-front tell after _ n _ (ap (readBackOf after) (sym is) ∙ answers)

@@ -17,7 +17,8 @@ look-up-requires : tie.Need-look-up-requires
 look-up-requires c κs =
     let written = c .before .before .before .write-made in
     let start = c .before .before .before .before .before .before .before .before .before .before in
-    deletion-inside (start .args .used) (ofIdentity (λ i. deletion i (start .args .deleteid .now)) (named (start .args .id))) (start .args .buf .now) _ (written .ensures) (written .kept .0)
+    let asked = ofIdentity (λ i. deletion i (start .args .deleteid .now)) (named (start .args .id)) in
+    deletion-inside (start .args .used) asked (start .args .buf .now) _ (written .ensures) (written .kept .0)
 
 same-length : tie.Need-same-length
 same-length c = search needs
@@ -27,8 +28,8 @@ returns c =
     let written = c .before .before .before .before .write-made in
     let start = c .before .before .before .before .before .before .before .before .before .before .before in
     let after : AllBytes (written .last .0) = record { below = λ k. c .before .before .slice-known2 .given k .fits } in
-    deletion-holds _ _ _ _ _ _ _ (asks-deletion (start .args .deleteid .now) (named (start .args .id))) after (written .result) (rw (c .before .before .before .before .before .is-name .ensures) at (written .ensures))
-    (c .look-up .ensures .0) (c .look-up .ensures .1)
+    deletion-holds _ _ _ _ _ _ _ (asks-deletion (start .args .deleteid .now) (named (start .args .id))) after (written .result)
+    (rw (c .before .before .before .before .before .is-name .ensures) at (written .ensures)) (c .look-up .ensures .0) (c .look-up .ensures .1)
 
 pub delete-version-then-look-up-spec : {M : Type 1} → statement M
 delete-version-then-look-up-spec =

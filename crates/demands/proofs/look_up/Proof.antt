@@ -30,7 +30,7 @@ returns c =
     let start = c .before .before .before .before .before .before .before .before in
     let told = c .before .before .before .written .given in (
       ap (counted (told .0 .0)) (c .lookup .ensures .0)
-      ∙ ap (λ w. lookedUp (start .args .buf .now) (start .args .bucket .now) (start .args .object .now) (answerOf w)) (sym (told .1)),
+          ∙ ap (λ w. lookedUp (start .args .buf .now) (start .args .bucket .now) (start .args .object .now) (answerOf w)) (sym (told .1)),
       inside-found _ _ _ (c .lookup .ensures .1),
     )
 

@@ -30,7 +30,7 @@ returns c =
     let start = c .before .before .before .before .before .before in
     let told = c .before .before .before .written .given in (
       ap (counted (told .0 .0)) (c .read-at .ensures .0)
-      ∙ ap (λ w. readThere (start .args .used) (start .args .buf .now) (answerOf w)) (sym (told .1)),
+          ∙ ap (λ w. readThere (start .args .used) (start .args .buf .now) (answerOf w)) (sym (told .1)),
       inside-read _ _ _ _ (c .read-at .ensures .1),
     )
 

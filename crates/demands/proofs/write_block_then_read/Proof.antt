@@ -15,7 +15,8 @@ read-back-requires : tie.Need-read-back-requires
 read-back-requires c κs =
     let written = c .before .before .before .write-block in
     let start = c .before .before .before .before .before .before .before in
-    count-inside (start .args .used) (ofIdentity (λ i. block i (start .args .content .now)) (named (start .args .id))) (start .args .buf .now) _ _ (written .ensures .0) (written .kept .0)
+    let asked = ofIdentity (λ i. block i (start .args .content .now)) (named (start .args .id)) in
+    count-inside (start .args .used) asked (start .args .buf .now) _ _ (written .ensures .0) (written .kept .0)
 
 same-length : tie.Need-same-length
 same-length c = search needs
