@@ -114,7 +114,7 @@ module _ (used : ℕ) (asked : Option Item) (before after : List ℕ) where
     no-refusal number place a b e s = subst (λ x. SameAnswer x b) e s
 
     pub deletion-holds : AsksDelete asked → AllBytes after → (w : Written) → WritesFor (isName bucket object) used asked before w after
-        → answersOf after r ≡ lookedUp after bucket object (answerOf w) → DeletionInside after r
+        → answersOf after r ≡ ofFront (lookedUp bucket object) after (answerOf w) → DeletionInside after r
         → DeletionHolds used asked before bucket object r after
     deletion-holds vd all w wrote found inside =
         record {
@@ -133,11 +133,11 @@ module _ (used : ℕ) (asked : Option Item) (before after : List ℕ) where
               };
         }
       where
-        answers : answersOf after r ≡ lookedUp after bucket object answer
-        answers = found ∙ ap (lookedUp after bucket object) (wrote .answer)
+        answers : answersOf after r ≡ ofFront (lookedUp bucket object) after answer
+        answers = found ∙ ap (ofFront (lookedUp bucket object) after) (wrote .answer)
 
-        there : (n : ℕ) (f : Found) → r ≡ LookedUp n f → OfFront (λ s. lookup packLimit s bucket object) after answer n (foundOf (take n after) f)
-        there n f is = of-front (λ s. lookup packLimit s bucket object) after answer n _ (ap (answersOf after) (sym is) ∙ answers)
+        there : (n : ℕ) (f : Found) → r ≡ LookedUp n f → OfFront (lookedUp bucket object) after answer n (foundOf (take n after) f)
+        there n f is = of-front (lookedUp bucket object) after answer n _ (ap (answersOf after) (sym is) ∙ answers)
 
         count : (n : ℕ) (f : Found) → r ≡ LookedUp n f → Counts (isName bucket object) n
         count n f is = counts (isName bucket object) n (there n f is .answered)

@@ -12,7 +12,7 @@ use Rattle.refusals.specs.Limit.{packLimit}
 use Rattle.refusals.specs.Answers.{result}
 use Rattle.value.specs.Header.{tellingOf}
 use Rattle.value.specs.declared.Told.{Told}
-use Rattle.records.specs.Record.{Record, AtPlace, there, recordAt, toldFrom, recordFrom, thereFrom}
+use Rattle.records.specs.Record.{Record, AtPlace, there, toldFrom, recordFrom, thereFrom}
 use Rattle.records.specs.Answers.{recordIn, placeOf, PlaceInside}
 use Rattle.records.specs.declared.AtPlace as declared-place
 use Rattle.records.specs.declared.AtPlace.the-variants as place-answer
@@ -22,7 +22,7 @@ use Rattle.writer.specs.Writing.{Item, valueOf, answerOf, written, bufferAfter}
 use Rattle.writer.specs.declared.Written.{Written}
 use Rattle.writer_laws.specs.Meaning.{heldOf}
 use Rattle.demands.specs.Added.{value-last, added-means, added-extends}
-use Rattle.demands.specs.Answers.{readBackOf, readThere, ReadInside, Tells, IsAdded, ReadBackHolds}
+use Rattle.demands.specs.Answers.{ofFront, readBackOf, readBehind, ReadInside, Tells, IsAdded, ReadBackHolds}
 use Rattle.demands.specs.declared.ReadBack.{ReadBack}
 use Rattle.demands.specs.declared.ReadBack.the-variants.{Read, Short, Inadmissible}
 use Rattle.demands.proofs.Calls.{OfFront, of-front, within}
@@ -72,8 +72,7 @@ module _ (used : ℕ) (s : List ℕ) (item : Item) (last : drop (used + 32) s �
 
 module _ (used n : ℕ) (before : List ℕ) (p : declared-place.AtPlace) where
   added : (asked : Option Item) → written packLimit (length before) used asked ≡ result n → AllBytes (bufferAfter packLimit used asked before)
-      → placeOf (take n (bufferAfter packLimit used asked before)) p
-      ≡ thereFrom (used + 32) (recordAt packLimit (take n (bufferAfter packLimit used asked before)) used)
+      → placeOf (take n (bufferAfter packLimit used asked before)) p ≡ readBehind used (take n (bufferAfter packLimit used asked before))
       → IsAdded asked (take used before) (take n (bufferAfter packLimit used asked before)) p
   unfolding written
   added none wrote all told = absurd-numbers (cc)
@@ -88,11 +87,8 @@ module _ (used n : ℕ) (before : List ℕ) (p : declared-place.AtPlace) where
       }
 
 module _ (used : ℕ) (asked : Option Item) (before after : List ℕ) (r : ReadBack) where
-  abbrev tell : List ℕ → AtPlace
-  tell s = thereFrom (used + 32) (recordAt packLimit s used)
-
   pub read-back-holds : AllBytes after → (w : Written) → answerOf w ≡ written packLimit (length before) used asked
-      → after ≡ bufferAfter packLimit used asked before → readBackOf after r ≡ readThere used after (answerOf w) → ReadInside used after r
+      → after ≡ bufferAfter packLimit used asked before → readBackOf after r ≡ ofFront (readBehind used) after (answerOf w) → ReadInside used after r
       → ReadBackHolds used asked before r after
   read-back-holds all w wrote buffer told inside =
       record {
@@ -104,9 +100,9 @@ module _ (used : ℕ) (asked : Option Item) (before after : List ℕ) (r : ReadB
             rw buffer (added used n before p asked (there-is n p is .answered) (subst AllBytes buffer all) (rw buffer at (there-is n p is .told)));
       }
     where
-      answers : readBackOf after r ≡ readThere used after (written packLimit (length before) used asked)
-      answers = told ∙ ap (readThere used after) wrote
+      answers : readBackOf after r ≡ ofFront (readBehind used) after (written packLimit (length before) used asked)
+      answers = told ∙ ap (ofFront (readBehind used) after) wrote
 
       there-is : (n : ℕ) (p : declared-place.AtPlace) → r ≡ Read n p
-          → OfFront tell after (written packLimit (length before) used asked) n (placeOf (take n after) p)
-      there-is n p is = of-front tell after _ n _ (ap (readBackOf after) (sym is) ∙ answers)
+          → OfFront (readBehind used) after (written packLimit (length before) used asked) n (placeOf (take n after) p)
+      there-is n p is = of-front (readBehind used) after _ n _ (ap (readBackOf after) (sym is) ∙ answers)

@@ -32,10 +32,10 @@ use Rattle.demands.specs.ReadBack.{Means, fits, means-there}
 
 -- ---- what is written as bytes was handed in as bytes
 
-pub front-bytes : (s t : List ℕ) → AllBytes (s ++ t) → AllBytes s
+front-bytes : (s t : List ℕ) → AllBytes (s ++ t) → AllBytes s
 front-bytes s t b = subst AllBytes (take-append-seam s t) (take-bytes (length s) (s ++ t) b)
 
-pub back-bytes : (s t : List ℕ) → AllBytes (s ++ t) → AllBytes t
+back-bytes : (s t : List ℕ) → AllBytes (s ++ t) → AllBytes t
 back-bytes s t b = subst AllBytes (drop-append-seam s t) (drop-bytes (length s) b)
 
 part-bytes : (p : List ℕ) → AllBytes (partValue p) → AllBytes p
@@ -140,7 +140,7 @@ module _ (limit : ℕ) (small : limit < 2 ^ 32) (item : Item) (used n : ℕ) (bu
       let w = written-exactly limit (length buf) used item n .0 wrote in
       rw (wrote, ← w .3) (take-overwritten buf used (itemBytes item) (w .2))
 
-  pub told-inside : used ≤ length buf
+  told-inside : used ≤ length buf
   told-inside = let w = written-exactly limit (length buf) used item n .0 wrote in omega arith
 
   pub total : length (take used buf ++ itemBytes item) ≤ limit

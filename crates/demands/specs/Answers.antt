@@ -59,8 +59,8 @@ answersOf buf (LookedUp n f) = counted n (foundOf (take n buf) f)
 answersOf buf deletion-answer.Short = refused 19
 answersOf buf deletion-answer.Inadmissible = refused 20
 
-abbrev pub lookedUp : List ℕ → List ℕ → List ℕ → refusals.Answer ℕ → Answers Answer
-lookedUp buf bucket object a = ofFront (λ s. lookup packLimit s bucket object) buf a
+abbrev pub lookedUp : List ℕ → List ℕ → List ℕ → Answer
+lookedUp bucket object s = lookup packLimit s bucket object
 
 -- the writer's call, made only where the name is admissible: document 01 tests 20 first
 pub record WritesFor (admissible : Bool) (used : ℕ) (asked : Option Item) (before : List ℕ) (w : Written) (after : List ℕ) : Type 0 where
@@ -82,7 +82,7 @@ pub record StandsWritten (used n number place : ℕ) (asked : Option Item) (befo
 -- of a call that is asked to add a `vd` after the first `used` bytes
 pub record DeletionHolds (used : ℕ) (asked : Option Item) (before bucket object : List ℕ) (r : Deletion) (after : List ℕ) : Type 0 where
   pub answers : answersOf after r
-      ≡ lookedUp after bucket object (cond (isName bucket object) (written packLimit (length before) used asked) (refusals.refused 20))
+      ≡ ofFront (lookedUp bucket object) after (cond (isName bucket object) (written packLimit (length before) used asked) (refusals.refused 20))
   pub buffer : after ≡ cond (isName bucket object) (bufferAfter packLimit used asked before) before
   pub found-inside : DeletionInside after r
   -- where the writer adds it, the name is admissible and the front is as long as was told
@@ -114,9 +114,9 @@ readBackOf buf (Read n p) = counted n (placeOf (take n buf) p)
 readBackOf buf read-answer.Short = refused 19
 readBackOf buf read-answer.Inadmissible = refused 20
 
--- at the end of the first `used` bytes, in places of the pack
-abbrev pub readThere : ℕ → List ℕ → refusals.Answer ℕ → Answers AtPlace
-readThere used buf a = ofFront (λ s. thereFrom (used + 32) (recordAt packLimit s used)) buf a
+-- behind the first `used` bytes, in places of the pack
+abbrev pub readBehind : ℕ → List ℕ → AtPlace
+readBehind used s = thereFrom (used + 32) (recordAt packLimit s used)
 
 pub record ReadInside (used : ℕ) (buf : List ℕ) (r : ReadBack) : Type 0 where
   pub inside : (n : ℕ) (p : declared-place.AtPlace) → r ≡ Read n p → PlaceInside (take n buf) used p
@@ -139,7 +139,7 @@ pub record IsAdded (asked : Option Item) (before front : List ℕ) (p : declared
 
 -- of a call that is asked to add a record after the first `used` bytes
 pub record ReadBackHolds (used : ℕ) (asked : Option Item) (before : List ℕ) (r : ReadBack) (after : List ℕ) : Type 0 where
-  pub answers : readBackOf after r ≡ readThere used after (written packLimit (length before) used asked)
+  pub answers : readBackOf after r ≡ ofFront (readBehind used) after (written packLimit (length before) used asked)
   pub buffer : after ≡ bufferAfter packLimit used asked before
   pub read-inside : ReadInside used after r
   pub told-inside : (n : ℕ) (p : declared-place.AtPlace) → r ≡ Read n p → used ≤ length before

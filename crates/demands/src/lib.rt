@@ -1,11 +1,12 @@
 // What the customer signs, as theorems: each file of specs/ has one of them. The code here only calls the
-// writer and the lookup, so that demand 3 is ensured of the code that runs.
+// writer, the reader and the lookup, so that demand 3 and demand 2's read-back are ensured of the code
+// that runs.
 ghost use mathlib.Core.Path.{_≡_};
 ghost use mathlib.Core.Option.{some};
 ghost use Rattle.identifier.specs.Held.{named};
 ghost use Rattle.writer.specs.Writing.{block, version, versionDelete, deletion, ofIdentity, answerOf};
 ghost use Rattle.current_version.specs.Current.{isName};
-ghost use Rattle.demands.specs.Answers.{answersOf, lookedUp, WritesFor, CountInside, DeletionInside, DeletionHolds, OrderHolds, readBackOf, readThere, ReadInside, ReadBackHolds};
+ghost use Rattle.demands.specs.Answers.{ofFront, CountInside, answersOf, lookedUp, WritesFor, DeletionInside, DeletionHolds, OrderHolds, readBackOf, readBehind, ReadInside, ReadBackHolds};
 use identifier::Identifier;
 use lookup::Found;
 use records::AtPlace;
@@ -57,7 +58,7 @@ fn write_made(
 // The lookup, where the writer returned a count.
 fn look_up(buf: &[u8], written: Written, bucket: &[u8], object: &[u8]) -> Deletion
     requires { ⌜ CountInside (now buf) written ⌝ }
-    ensures { λ r. ⌜ answersOf (now (buf .entry)) r ≡ lookedUp (now (buf .entry)) (now (bucket .entry)) (now (object .entry)) (answerOf written) ⌝ }
+    ensures { λ r. ⌜ answersOf (now (buf .entry)) r ≡ ofFront (lookedUp (now (bucket .entry)) (now (object .entry))) (now (buf .entry)) (answerOf written) ⌝ }
     ensures inside { λ r. ⌜ DeletionInside (now (buf .entry)) r ⌝ }
 {
     match written {
@@ -115,7 +116,7 @@ pub fn look_up_in_both(first: &[u8], second: &[u8], bucket: &[u8], object: &[u8]
     }
 }
 
-// ---- a record written, and read at its place
+// ---- a record written, and read at its place: one function for each way of writing
 
 pub enum ReadBack {
     // The count returned, and what is read where the pack so far ended, in the front as long as it.
@@ -129,7 +130,7 @@ pub enum ReadBack {
 // The reading, where the writer returned a count.
 fn read_back(buf: &[u8], used: usize, written: Written) -> ReadBack
     requires { ⌜ CountInside (now buf) written ⌝ }
-    ensures { λ r. ⌜ readBackOf (now (buf .entry)) r ≡ readThere used (now (buf .entry)) (answerOf written) ⌝ }
+    ensures { λ r. ⌜ readBackOf (now (buf .entry)) r ≡ ofFront (readBehind used) (now (buf .entry)) (answerOf written) ⌝ }
     ensures inside { λ r. ⌜ ReadInside used (now (buf .entry)) r ⌝ }
 {
     match written {

@@ -3,7 +3,7 @@ use mathlib.Core.Path.{sym, ap, _∙_}
 use borrow.Author.Needs.{needs}
 use lib.Seq.{length-take-le}
 use Rattle.writer.specs.Writing.{answerOf}
-use Rattle.demands.specs.Answers.{counted, readThere}
+use Rattle.demands.specs.Answers.{counted, ofFront, readBehind}
 use Rattle.demands.proofs.ReadBacks.{inside-read, inside-short, inside-inadmissible}
 use Rattle.demands.proofs.read_back.Statement.{statement}
 use Rattle.demands.proofs.read_back.Tie as tie
@@ -30,19 +30,19 @@ returns c =
     let start = c .before .before .before .before .before .before in
     let told = c .before .before .before .written .given in (
       ap (counted (told .0 .0)) (c .read-at .ensures .0)
-          ∙ ap (λ w. readThere (start .args .used) (start .args .buf .now) (answerOf w)) (sym (told .1)),
+          ∙ ap (λ w. ofFront (readBehind (start .args .used)) (start .args .buf .now) (answerOf w)) (sym (told .1)),
       inside-read _ _ _ _ (c .read-at .ensures .1),
     )
 
 returns-2 : tie.Need-returns-2
 returns-2 c =
     let start = c .before .before .before in
-    (ap (λ w. readThere (start .args .used) (start .args .buf .now) (answerOf w)) (sym (c .enum-told .given .1)), inside-short _ _)
+    (ap (λ w. ofFront (readBehind (start .args .used)) (start .args .buf .now) (answerOf w)) (sym (c .enum-told .given .1)), inside-short _ _)
 
 returns-3 : tie.Need-returns-3
 returns-3 c =
     let start = c .before .before .before in
-    (ap (λ w. readThere (start .args .used) (start .args .buf .now) (answerOf w)) (sym (c .enum-told2 .given .1)), inside-inadmissible _ _)
+    (ap (λ w. ofFront (readBehind (start .args .used)) (start .args .buf .now) (answerOf w)) (sym (c .enum-told2 .given .1)), inside-inadmissible _ _)
 
 pub read-back-spec : {M : Type 1} → statement M
 read-back-spec =
