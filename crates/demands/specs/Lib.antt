@@ -1,6 +1,7 @@
 pub mod Cases
 pub mod Sites
 pub mod ReadBack
+pub mod Added
 pub mod Deletion
 pub mod Sheet
 pub mod Answers

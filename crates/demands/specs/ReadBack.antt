@@ -86,7 +86,7 @@ module _ (limit : ℕ) (small : limit < 2 ^ 32) where
 
   -- ---- the records one after the other, behind any bytes
 
-  means-there : (item : Item) (front rest : List ℕ) → AreBytes item → admitted item ≡ true
+  pub means-there : (item : Item) (front rest : List ℕ) → AreBytes item → admitted item ≡ true
       → length (front ++ (itemBytes item ++ rest)) ≤ limit → length (valueOf item) ≤ limit
       → Means limit (front ++ (itemBytes item ++ rest)) item (entryOf (length front) (recordFor item))
   means-there item front rest b a l m =

@@ -22,7 +22,8 @@ returns c =
       second-is = c .lookup2 .ensures .0;
       first-inside = c .before .lookup .ensures .1;
       second-inside = c .lookup2 .ensures .1;
-      alike = λ p q same one name. rw (c .before .lookup .ensures .0, c .lookup2 .ensures .0) (rearranged-packs-answer-alike packLimit _ _ _ _ first second p q same one name);
+      alike = λ p q same one name. rw (c .before .lookup .ensures .0, c .lookup2 .ensures .0)
+          (rearranged-packs-answer-alike packLimit _ _ _ _ first second p q same one name);
     }
 
 pub look-up-in-both-spec : {M : Type 1} → statement M
