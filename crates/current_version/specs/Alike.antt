@@ -134,3 +134,22 @@ module _ (Number Place : ℕ → ℕ → Type 0) (Bytes : List ℕ → List ℕ 
           (cond name (answerIn (map (placed limit t) (reading limit t .entries)) bucket object) (alone 20))
       by true = answers-alike xs bucket object
       by false = both-alone 20
+
+-- ---- what answers alike have in common, whatever was left open
+
+pub data Outline : Type 0 where
+  nothing-told : Outline
+  version-told : Identity → Bool → Outline  -- whether it is a delete marker
+  refusal-told : Outline
+
+abbrev pub outline : Answer → Outline
+outline nothing = nothing-told
+outline (found v) = version-told (v .identifier) (v .deleteFlag)
+outline (refusedAt n place) = refusal-told
+outline (alone n) = refusal-told
+
+pub same-outline : {Number Place : ℕ → ℕ → Type 0} {Bytes : List ℕ → List ℕ → Type 0} {a b : Answer} → AlikeAnswers Number Place Bytes a b → outline a ≡ outline b
+same-outline both-nothing = refl
+same-outline (both-found x) = λ i. version-told (x .identifier i) (x .deleteFlag i)
+same-outline (both-refused n p) = refl
+same-outline (both-alone n) = refl
