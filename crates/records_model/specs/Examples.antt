@@ -40,21 +40,21 @@ use Rattle.records_model.specs.TwoSites.{records-alike}
 
 -- ---- texts in two widths
 
-abbrev narrow : List ℕ → List ℕ
+abbrev pub narrow : List ℕ → List ℕ
 narrow t = (0xa0 + length t) ∷ t
 
-abbrev wide : List ℕ → List ℕ
+abbrev pub wide : List ℕ → List ℕ
 wide t = 0xd9 ∷ bigBytes 1 (length t) ++ t
 
-abbrev ulid : List ℕ
+abbrev pub ulid : List ℕ
 ulid =
     0x30 ∷ 0x30 ∷ 0x30 ∷ 0x30 ∷ 0x30 ∷ 0x30 ∷ 0x30 ∷ 0x30 ∷ 0x30 ∷ 0x30 ∷ 0x30 ∷ 0x30 ∷ 0x30 ∷ 0x30 ∷ 0x30 ∷ 0x30 ∷ 0x30
     ∷ 0x30 ∷ 0x30 ∷ 0x30 ∷ 0x30 ∷ 0x30 ∷ 0x30 ∷ 0x30 ∷ 0x30 ∷ 0x31 ∷ []
 
-abbrev herd : List ℕ
+abbrev pub herd : List ℕ
 herd = 0x68 ∷ 0x65 ∷ 0x72 ∷ 0x64 ∷ []
 
-abbrev scan : List ℕ
+abbrev pub scan : List ℕ
 scan = 0x73 ∷ []
 
 abbrev secondary : List ℕ
@@ -109,7 +109,7 @@ abbrev twice : Value → Value → Value
 twice first last = Map (pair (Text primaryKey) (Binary herePartBytes) (pair (Text compressionKey) first (pair (Text compressionKey) last no-pairs)))
 
 -- each value is one byte
-abbrev twiceBytes : ℕ → ℕ → List ℕ
+abbrev pub twiceBytes : ℕ → ℕ → List ℕ
 twiceBytes first last = 0x83 ∷ narrow primaryKey ++ 0xc4 ∷ length herePartBytes ∷ herePartBytes ++ narrow compressionKey
     ++ first ∷ narrow compressionKey ++ last ∷ []
 
@@ -145,19 +145,19 @@ computed = record { here = refl; there = refl; twice-integers = refl; nil-first 
 
 -- ---- these are encodings
 
-isShort : ℕ → List ℕ → Bool
+unfoldable pub isShort : ℕ → List ℕ → Bool
 isShort most t = ltb (length t) most && all (λ b. ltb b 256) t
 
-all-bytes : (t : List ℕ) → all (λ b. ltb b 256) t ≡ true → AllBytes t
+pub all-bytes : (t : List ℕ) → all (λ b. ltb b 256) t ≡ true → AllBytes t
 unfolding all
 all-bytes [] e = none-bytes
 all-bytes (b ∷ t) e = let p = both (ltb b 256) (all (λ b. ltb b 256) t) e in cons-bytes (ltb-true b 256 (p .0)) (all-bytes t (p .1))
 
-narrow-text : (t : List ℕ) → isShort 32 t ≡ true → Encodes (Text t) (narrow t)
+pub narrow-text : (t : List ℕ) → isShort 32 t ≡ true → Encodes (Text t) (narrow t)
 unfolding isShort
 narrow-text t e = let p = both (ltb (length t) 32) _ e in scalar (text (fixstr (length t) (ltb-true _ _ (p .0))) (all-bytes t (p .1)))
 
-wide-text : (t : List ℕ) → isShort 256 t ≡ true → Encodes (Text t) (wide t)
+pub wide-text : (t : List ℕ) → isShort 256 t ≡ true → Encodes (Text t) (wide t)
 unfolding isShort
 wide-text t e = let p = both (ltb (length t) 256) _ e in scalar (text (str8 (number-written 1 (length t) (ltb-true _ _ (p .0)))) (all-bytes t (p .1)))
 
