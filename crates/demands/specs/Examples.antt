@@ -1,6 +1,6 @@
 -- The packs of two sites, alike, with their lookups computed. A record that both have is alike to itself, though no reader could read it: one with the
 -- tag `C!` and an empty value, and a version with a key twice.
-use Prim.Native.Nat.{ℕ, _+_}
+use Prim.Native.Nat.{ℕ}
 use mathlib.Core.Bool.{true}
 use mathlib.Core.List.{List, [], _∷_, _++_}
 use mathlib.Core.Path.{_≡_, refl}
@@ -36,10 +36,10 @@ use Rattle.value.specs.Reading as value
 use Rattle.primary.specs.Parts as primary
 use Rattle.primary.specs.Parts.{bucketKey, objectKey, ulidKey, deletedKey, fills, textUnder, textsUnder, deletedUnder, ulidOf}
 use Rattle.records.specs.Record.{versionTag, isKnown, contents, toldRows, readRecord}
-use Rattle.records_model.specs.Alike.{Alike, same, maps, embedded, next-pair as next-pair-alike, no-pairs-alike, swapped, AlikeRecordValues, same-value, headers}
+use Rattle.records_model.specs.Alike.{same, maps, embedded, next-pair as next-pair-alike, no-pairs-alike, swapped, AlikeRecordValues, same-value, headers}
 use Rattle.records_model.specs.Examples.{narrow, wide, ulid, herd, scan, twiceBytes, isShort, all-bytes, narrow-text, wide-text}
 use Rattle.current_version.specs.Current.{isLookedAt, role, versionOf, filtered, better, best, deletes, isDeleted, isLive, current, Answer, found, refusedAt, readability, answerIn, isName, lookup}
-use Rattle.demands.specs.Sites.{AlikePacks, AlikeLookups, sites-look-up-alike}
+use Rattle.demands.specs.Sites.{AlikePacks}
 
 -- ---- a delete marker: {e: {b, o, v, d}} and {e: {o, b, v, d}}
 

@@ -1,9 +1,10 @@
 -- Two sites' packs: where their records are alike one by one, they are read alike, record by record, and every object is looked up alike.
-use Prim.Native.Nat.{ℕ, _+_, _≤_}
+use Prim.Native.Nat.{ℕ, zero, suc, _≤_}
 use mathlib.Core.Bool.{Bool, true, false, cond}
 use mathlib.Core.List.{List, [], _∷_, _++_, map, append-assoc, List·Memᴰ, List·Memᴰ·head, List·Memᴰ·tail, List·Memᴰ·not-nil, List·Memᴰ·cases-cons}
 use mathlib.Core.Logic.{⊎-elim}
-use mathlib.Core.Path.{_≡_, refl, sym, ap, subst, subst₂, _∙_}
+use mathlib.Core.Option.{Option, none, some}
+use mathlib.Core.Path.{_≡_, refl, sym, ap, subst, _∙_}
 use lib.ListN.{length, length-append}
 use lib.Seq.{drop-append-seam}
 use Rattle.slices.specs.Bytes.{AllBytes}
@@ -18,7 +19,7 @@ use Rattle.identifier.specs.Identity.{Identity}
 use Rattle.records.specs.Record as records
 use Rattle.records.specs.Record.{Kind, Contents, readRecord, AtPlace, there, refusedAt, alone, atPlace, recordAt}
 use Rattle.records.specs.Laws.{tag-and-value}
-use Rattle.records_model.specs.Alike.{AlikeRecordValues}
+use Rattle.records_model.specs.Alike.{AlikeRecordValues, same-value}
 use Rattle.records_model.specs.Record.{RecordHeld, recordIn}
 use Rattle.records_model.specs.AnswersAlike.{AnswersAlike, same-refusal, first-22, second-22, both-read, NumbersAlike, SameRecord}
 use Rattle.records_model.specs.TwoSites.{record-values-alike}
@@ -41,6 +42,14 @@ pub record AlikePacks (limit : ℕ) (s t : List ℕ) : Type 0 where
   pub first-accepted : reading limit s .ending ≡ whole
   pub second-accepted : reading limit t .ending ≡ whole
   pub entries : Each (AlikeEntries s t) (reading limit s .entries) (reading limit t .entries)
+
+-- as every accepted pack is to itself, whatever its records hold
+pub alike-itself : (limit : ℕ) (s : List ℕ) → reading limit s .ending ≡ whole → AlikePacks limit s s
+alike-itself limit s accepted = record { first-accepted = accepted; second-accepted = accepted; entries = each (reading limit s .entries) }
+  where
+    each : (es : List Entry) → Each (AlikeEntries s s) es es
+    each [] = no-more
+    each (e ∷ es) = and-each (record { tag = refl; value = same-value (valueOf s e) }) (each es)
 
 -- ---- record by record
 
@@ -115,13 +124,20 @@ module _ (limit : ℕ) where
 
 -- ---- the lookup
 
--- starts of records that have the same index in both packs
-pub data SameIndex : List Entry → List Entry → ℕ → ℕ → Type 0 where
-  first : {d e : Entry} {ds es : List Entry} → SameIndex (d ∷ ds) (e ∷ es) (d .start) (e .start)
-  further : {d e : Entry} {ds es : List Entry} {p q : ℕ} → SameIndex ds es p q → SameIndex (d ∷ ds) (e ∷ es) p q
+-- where the record of an index starts
+unfoldable pub startAt : List Entry → ℕ → Option ℕ
+startAt [] k = none
+startAt (e ∷ es) zero = some (e .start)
+startAt (e ∷ es) (suc k) = startAt es k
 
--- both are "nothing"; or both are found, with the same identifier and delete flag, values alike, and of the same index; or both are refused,
--- with numbers alike at the same index, or the name with 20
+-- two records start there that have one index, each in its pack
+pub record SameIndex (ds es : List Entry) (p q : ℕ) : Type 0 where
+  pub index : ℕ
+  pub first-start : startAt ds index ≡ some p
+  pub second-start : startAt es index ≡ some q
+
+-- both give nothing; or both find a version, with the same identifier and delete flag, with values alike and at the same index; or both refuse,
+-- with numbers alike and at the same index, or the name, with 20
 abbrev pub AlikeLookups : ℕ → List ℕ → List ℕ → current.Answer → current.Answer → Type 0
 AlikeLookups limit s t = AlikeAnswers NumbersAlike (SameIndex (reading limit s .entries) (reading limit t .entries)) AlikeRecordValues
 
@@ -157,11 +173,16 @@ roles-alike limit tag {x} {y} z = by (isLookedAt tag)
 
 placed-alike : (limit : ℕ) {s t : List ℕ} {Place : ℕ → ℕ → Type 0} {ds es : List Entry} → ((p q : ℕ) → SameIndex ds es p q → Place p q)
     → Each (AlikeEntries s t) ds es → Each (AlikePlaced NumbersAlike Place AlikeRecordValues) (map (placed limit s) ds) (map (placed limit t) es)
+unfolding startAt
 placed-alike limit f no-more = no-more
 placed-alike limit {s} {t} f (and-each {a = d} {b = e} x xs) =
     and-each {a = placed limit s d} {b = placed limit t e}
-    (record { role = rw (x .tag) (roles-alike limit (e .tag) (x .value)); start = f (d .start) (e .start) first; value = x .value })
-    (placed-alike limit (λ p q i. f p q (further i)) xs)
+    (record {
+      role = rw (x .tag) (roles-alike limit (e .tag) (x .value));
+      start = f (d .start) (e .start) (record { index = 0; first-start = refl; second-start = refl });
+      value = x .value;
+    })
+    (placed-alike limit (λ p q i. f p q (record { index = suc (i .index); first-start = i .first-start; second-start = i .second-start })) xs)
 
 -- for every bucket and object
 pub sites-look-up-alike : (limit : ℕ) (s t bucket object : List ℕ) → AlikePacks limit s t

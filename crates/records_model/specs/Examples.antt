@@ -33,7 +33,7 @@ use Rattle.value.specs.Reading.{reading}
 use Rattle.primary.specs.Parts.{bucketKey, objectKey, ulidKey, identifierKey, fills, textUnder, textsUnder, shapeAt, shapeUnder}
 use Rattle.primary.specs.Parts as part
 use Rattle.records.specs.Record.{blockTag, isKnown, block, contents, toldRows, readRecord}
-use Rattle.records_model.specs.Alike.{Alike, same, maps, arrays, embedded, next as next-alike, no-values-alike, next-pair as next-pair-alike, no-pairs-alike, swapped, and-further}
+use Rattle.records_model.specs.Alike.{Alike, same, maps, arrays, embedded, next as next-alike, no-values-alike, next-pair as next-pair-alike, no-pairs-alike, swapped, and-further, AlikeRecordValues, same-value}
 use Rattle.records_model.specs.Record.{RecordHeld, recordIn}
 use Rattle.records_model.specs.AnswersAlike.{AnswersAlike, SameRecord}
 use Rattle.records_model.specs.TwoSites.{records-alike}
@@ -220,3 +220,11 @@ sites-read-alike = records-alike limit blockTag here-header there-header sites-a
 
 pub twice-alike : (first last : Value) → Alike (twice first last) (twice last first)
 twice-alike first last = maps (next-pair-alike (same _) (same _) (swapped _ _ _ _ no-pairs))
+
+-- ---- values that no reader can read: each is alike to itself
+
+pub empty-alike : AlikeRecordValues [] []
+empty-alike = same-value []
+
+pub twice-itself : AlikeRecordValues (twiceBytes 1 0) (twiceBytes 1 0)
+twice-itself = same-value (twiceBytes 1 0)

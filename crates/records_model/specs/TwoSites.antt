@@ -42,12 +42,12 @@ pub records-alike : (limit tag : ℕ) {v w : Value} {e f : List ℕ} → Encodes
     → AnswersAlike SameRecord (recordIn (e ++ rest) (readRecord limit tag (e ++ rest))) (recordIn (f ++ rest) (readRecord limit tag (f ++ rest)))
 records-alike limit tag x y z rest = rw (record-reads limit tag x rest, record-reads limit tag y rest) (same-records z limit tag rest)
 
--- and a record that is the same at both sites, whatever it holds
+-- a record that is the same at both sites, whatever it holds
 same-record : (value : List ℕ) (a : Answer Record) → AnswersAlike SameRecord (recordIn value a) (recordIn value a)
 same-record value (result r) = both-read (record { held = record { primary = same-bytes _; secondary = refl; told = refl }; contents = refl })
 same-record value (refused n) = same-refusal n
 
 pub record-values-alike : (limit tag : ℕ) {x y : List ℕ} → AlikeRecordValues x y
     → AnswersAlike SameRecord (recordIn x (readRecord limit tag x)) (recordIn y (readRecord limit tag y))
-record-values-alike limit tag (same-value value) = same-record value (readRecord limit tag value)
+record-values-alike limit tag {x} (same-value value) = same-record x (readRecord limit tag x)
 record-values-alike limit tag (headers x y z secondary) = records-alike limit tag x y z secondary
