@@ -135,7 +135,7 @@ module _ (Number Place : ℕ → ℕ → Type 0) (Bytes : List ℕ → List ℕ 
       by true = answers-alike xs bucket object
       by false = both-alone 20
 
--- ---- what answers alike have in common, whatever was left open
+-- ---- what is equal in answers alike, whatever was left open
 
 pub data Outline : Type 0 where
   nothing-told : Outline
@@ -148,7 +148,8 @@ outline (found v) = version-told (v .identifier) (v .deleteFlag)
 outline (refusedAt n place) = refusal-told
 outline (alone n) = refusal-told
 
-pub same-outline : {Number Place : ℕ → ℕ → Type 0} {Bytes : List ℕ → List ℕ → Type 0} {a b : Answer} → AlikeAnswers Number Place Bytes a b → outline a ≡ outline b
+pub same-outline : {Number Place : ℕ → ℕ → Type 0} {Bytes : List ℕ → List ℕ → Type 0} {a b : Answer} → AlikeAnswers Number Place Bytes a b
+    → outline a ≡ outline b
 same-outline both-nothing = refl
 same-outline (both-found x) = λ i. version-told (x .identifier i) (x .deleteFlag i)
 same-outline (both-refused n p) = refl
