@@ -1,5 +1,6 @@
 pub mod Cases
 pub mod Sites
+pub mod Examples
 pub mod ReadBack
 pub mod Added
 pub mod Deletion
