@@ -21,8 +21,9 @@ pub fn from(s: &[u8], at: usize) -> &[u8]
     ensures { λ r. ⌜ now r ≡ drop at (now (s .entry)) ⌝ }
     ensures address { λ r. ⌜ r .ptr ≡ addressAt (s .entry) at ⌝ }
 {
-    if s.len() <= at {
-        return &s[s.len()..];
+    let end = s.len();
+    if end <= at {
+        return &s[end..end];
     }
     &s[at..]
 }
