@@ -277,7 +277,12 @@ fn main() {
     for versions in [100, 1_000, 10_000, 100_000, 400_000] {
         for (name, order) in orders {
             let what = format!("{versions}, all, {name}");
-            measure(&what, Pack::all_deleted(versions, order));
+            measure(&what, Pack::all_deleted(versions, 1, order));
         }
+    }
+    // No more versions than it takes to need as many turns: a version where the hints end.
+    for (name, order) in orders {
+        let what = format!("25, 200000 deletions, {name}");
+        measure(&what, Pack::all_deleted(200_000, 8_193, order));
     }
 }

@@ -150,10 +150,11 @@ impl Pack {
         }
     }
 
-    /// Versions of one object, and after them the deletion of each, both in this order.
-    pub fn all_deleted(versions: usize, order: Order) -> Self {
-        let (numbers, mut bytes) = (order.numbers(versions), Vec::new());
-        for &number in &numbers {
+    /// Versions of one object, one for every so many deletions, and after them the deletions, both in
+    /// this order.
+    pub fn all_deleted(deletions: usize, every: usize, order: Order) -> Self {
+        let (numbers, mut bytes) = (order.numbers(deletions), Vec::new());
+        for &number in numbers.iter().filter(|&number| number % every == 0) {
             tlv::append(&mut bytes, *b"vr", &version(number, &object(0), false));
         }
         for &number in &numbers {
