@@ -7,3 +7,4 @@ pub mod Deletion
 pub mod Order
 pub mod Bytes
 pub mod Examples
+pub mod TellsApart
