@@ -4,3 +4,4 @@ pub mod ReadBack
 pub mod Deletion
 pub mod Sheet
 pub mod Answers
+pub mod TellsApart
