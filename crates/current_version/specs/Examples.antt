@@ -1,10 +1,9 @@
 -- The lookup on packs written out, as one table; antt computes every answer.
 use Prim.Native.Nat.{ℕ, suc, _+_}
-use mathlib.Core.Bool.{Bool, true, false, cond}
+use mathlib.Core.Bool.{Bool, true, false}
 use mathlib.Core.List.{List, [], _∷_, _++_, map}
-use mathlib.Core.Path.{_≡_, refl, ap}
-use native.Mathlib.Omega.{arith}
-use lib.ListN.{length, getD, replicate}
+use mathlib.Core.Path.{_≡_, refl}
+use lib.ListN.{length, replicate}
 use Rattle.slices.specs.Bytes.{sameBytes}
 use Rattle.refusals.specs.Sheet.{lowest}
 use Rattle.refusals.specs.Limit.{packLimit}

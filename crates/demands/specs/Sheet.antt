@@ -1,15 +1,15 @@
 -- Which number is given: of the rows of the refusal sheet for one record, in their order, the first that applies; and a record is read exactly when
 -- none does. So "can be read" is what the sheet says.
 use Prim.Native.Nat.{ℕ, _+_}
-use mathlib.Core.Bool.{Bool, true, false, cond, not, _||_}
-use mathlib.Core.List.{List, [], _∷_, map, List·Memᴰ, List·Memᴰ·head, List·Memᴰ·tail, List·Memᴰ·cases-cons, List·Memᴰ·not-nil}
+use mathlib.Core.Bool.{Bool, true, false, _||_}
+use mathlib.Core.List.{List, [], _∷_, map, List·Memᴰ, List·Memᴰ·head, List·Memᴰ·tail as past, List·Memᴰ·cases-cons, List·Memᴰ·not-nil}
 use mathlib.Core.Logic.{_↔_, _⊎_, inl, inr, ⊎-elim}
 use mathlib.Core.Option.{Option, none, some}
 use mathlib.Core.Path.{_≡_, refl, sym, ap, subst, _∙_}
 use native.Mathlib.Omega.{arith}
 use borrow.Author.Tests.{eqb-true, eqb-false}
 use lib.Dec.{eqb}
-use lib.ListN.{length, take}
+use lib.ListN.{length, take, drop}
 use Rattle.slices.specs.Logic.{absurd-numbers, clash}
 use Rattle.refusals.specs.Sheet.{lowest}
 use Rattle.refusals.specs.Answers.{Answer, refused, result, unless}
@@ -27,7 +27,7 @@ use Rattle.records.specs.Record.{blockTag, versionTag, versionDeleteTag, isKnow
 use Rattle.records.specs.Laws.{can-be-read, the-record}
 use Rattle.current_version.specs.Current.{isLookedAt}
 
--- ---- the rows: none presupposes more than its own words need
+-- ---- the rows: each presupposes what its own words need, and not that rows before it do not apply
 
 -- the first item is the header, and tells t
 pub record HeaderTells (limit : ℕ) (s : List ℕ) (t : Told) : Type 0 where
@@ -55,6 +55,7 @@ pub data BreaksRules (tag : ℕ) (part : List ℕ) : Type 0 where
   delete-identifier-breaks : tag ≡ versionDeleteTag → (t : List ℕ) → textUnder byteView deleteIdKey part ≡ some t → isUlid t ≡ false
       → BreaksRules tag part
 
+-- 22 is two of them
 pub data Row : Type 0 where
   no-whole-item : Row
   depth-17 : Row
@@ -83,7 +84,7 @@ number part-not-described = 17
 number part-key-repeats = 22
 number rules-broken = 18
 
--- to a record with this tag and the value s
+-- to a record with this tag and the value s; of 9 and 10, passing over an item tells the first met from the left
 abbrev pub Applies : ℕ → ℕ → List ℕ → Row → Type 0
 Applies limit tag s no-whole-item = passOver s ≡ cut
 Applies limit tag s depth-17 = passOver s ≡ tooDeep
@@ -98,29 +99,46 @@ Applies limit tag s part-not-described = (t : Told) × HeaderTells limit s t × 
 Applies limit tag s part-key-repeats = (t : Told) × HeaderTells limit s t × KeyRepeats tag (primaryIn s t)
 Applies limit tag s rules-broken = (t : Told) × HeaderTells limit s t × BreaksRules tag (primaryIn s t)
 
--- ---- their order: 22 stands in it twice
+-- ---- their order
 
-unfoldable pub sheet : List Row
+abbrev pub sheet : List Row
 sheet =
     no-whole-item ∷ depth-17 ∷ header-not-described ∷ header-key-repeats ∷ value-not-filled ∷ tag-unknown ∷ version-not-0 ∷ part-encoded
     ∷ part-not-filled ∷ part-not-described ∷ part-key-repeats ∷ rules-broken ∷ []
 
 pub numbers-in-order : map number sheet ≡ 9 ∷ 10 ∷ 11 ∷ 22 ∷ 12 ∷ 13 ∷ 14 ∷ 15 ∷ 16 ∷ 17 ∷ 22 ∷ 18 ∷ []
-unfolding sheet
 numbers-in-order = refl
 
 -- from a row on
-abbrev fromRules : List Row
-fromRules = rules-broken ∷ []
+abbrev fromHeader : List Row
+fromHeader = drop 2 sheet
 
-abbrev fromRepeats : List Row
-fromRepeats = part-key-repeats ∷ fromRules
-
-abbrev fromDescription : List Row
-fromDescription = part-not-described ∷ fromRepeats
+abbrev fromHeaderKeys : List Row
+fromHeaderKeys = drop 3 sheet
 
 abbrev fromFilling : List Row
-fromFilling = part-not-filled ∷ fromDescription
+fromFilling = drop 4 sheet
+
+abbrev fromTag : List Row
+fromTag = drop 5 sheet
+
+abbrev fromVersion : List Row
+fromVersion = drop 6 sheet
+
+abbrev fromEncoding : List Row
+fromEncoding = drop 7 sheet
+
+abbrev fromPart : List Row
+fromPart = drop 8 sheet
+
+abbrev fromDescription : List Row
+fromDescription = drop 9 sheet
+
+abbrev fromKeys : List Row
+fromKeys = drop 10 sheet
+
+abbrev fromRules : List Row
+fromRules = drop 11 sheet
 
 -- the first of these rows that applies
 pub data First (P : Row → Type 0) : List Row → Row → Type 0 where
@@ -151,7 +169,7 @@ module _ {P : Row → Type 0} where
 
   first-stands : {rs : List Row} {r : Row} → First P rs r → List·Memᴰ r rs
   first-stands (here p) = List·Memᴰ·head refl
-  first-stands (later n f) = List·Memᴰ·tail (first-stands f)
+  first-stands (later n f) = past (first-stands f)
 
   one-first : {rs : List Row} {q r : Row} → First P rs q → First P rs r → q ≡ r
   one-first (here p) (here q) = refl
@@ -159,8 +177,9 @@ module _ {P : Row → Type 0} where
   one-first (later n f) (here p) = absurd (n p)
   one-first (later n f) (later m g) = one-first f g
 
--- ---- 16, 17, 22 and 18: the primary part of what a header tells
+-- ---- 16, 17, 22 and 18: of the primary part, by the tag
 
+-- what is told is one
 one-told : {limit : ℕ} {s : List ℕ} {t u : Told} → HeaderTells limit s t → HeaderTells limit s u → t ≡ u
 one-told {limit} {s} h g =
     let sizes : h .size ≡ g .size = let e = sym (h .item) ∙ g .item in cc in
@@ -184,24 +203,23 @@ module _ (limit tag : ℕ) (s : List ℕ) (t : Told) (tells : HeaderTells limit 
   abbrev AtPart : List Row → Type 0
   AtPart rows = Outcome Here answer rows
 
-  filling : (fills part ≡ false → answer ≡ refused 16) → (fills part ≡ true → AtPart fromDescription)
-      → AtPart fromFilling
+  filling : (fills part ≡ false → answer ≡ refused 16) → (fills part ≡ true → AtPart fromDescription) → AtPart fromPart
   filling refuses-16 more = by (fills part) refl
     where
-      by : (b : Bool) → fills part ≡ b → AtPart fromFilling
+      by : (b : Bool) → fills part ≡ b → AtPart fromPart
       by true w = pass (only (λ u. fills (primaryIn s u) ≡ false) (λ x. clash w x)) (more w)
       by false w = now (t, tells, w) (refuses-16 w)
 
-  described : (NotDescribed tag part → ⊥) → AtPart fromRepeats → AtPart fromDescription
+  described : (NotDescribed tag part → ⊥) → AtPart fromKeys → AtPart fromDescription
   described n more = pass (only (λ u. NotDescribed tag (primaryIn s u)) n) more
 
-  once : (KeyRepeats tag part → ⊥) → AtPart fromRules → AtPart fromRepeats
+  once : (KeyRepeats tag part → ⊥) → AtPart fromRules → AtPart fromKeys
   once n more = pass (only (λ u. KeyRepeats tag (primaryIn s u)) n) more
 
   kept : (BreaksRules tag part → ⊥) → (c : Contents) → contents tag part ≡ result c → AtPart fromRules
   kept n c e = pass (only (λ u. BreaksRules tag (primaryIn s u)) n) (finished (record { told = t; contents = c }) (ap (withTold t) e))
 
-  block-rows : tag ≡ blockTag → AtPart fromFilling
+  block-rows : tag ≡ blockTag → AtPart fromPart
   unfolding contents primary.block isLookedAt
   block-rows is = filling (λ w. rw (is, w)) (λ w. shape w (shapeUnder byteView part) refl)
     where
@@ -218,7 +236,7 @@ module _ (limit tag : ℕ) (s : List ℕ) (t : Told) (tells : HeaderTells limit 
           missing (no-boolean g e) = omega arith
           missing (no-delete-identifier g e) = omega arith
 
-          repeated : (b : Bool) → blockRepeats byteView part ≡ b → AtPart fromRepeats
+          repeated : (b : Bool) → blockRepeats byteView part ≡ b → AtPart fromKeys
           repeated true n = now (t, tells, in-block is n) (rw (is, w, h, n))
           repeated false n = once twice (rules (identityBy i) refl)
             where
@@ -236,7 +254,7 @@ module _ (limit tag : ℕ) (s : List ℕ) (t : Told) (tells : HeaderTells limit 
                   broken (texts-break g k e f) = not-looked-at g
                   broken (delete-identifier-breaks g k e f) = omega arith
 
-  version-rows : tag ≡ versionTag → AtPart fromFilling
+  version-rows : tag ≡ versionTag → AtPart fromPart
   unfolding contents primary.version identityOf isLookedAt
   version-rows is = filling (λ w. rw (is, w)) (λ w. texts w (textsUnder byteView part) refl (deletedUnder byteView part) refl)
     where
@@ -252,7 +270,7 @@ module _ (limit tag : ℕ) (s : List ℕ) (t : Told) (tells : HeaderTells limit 
           missing (no-boolean g e) = absurd-numbers (cc)
           missing (no-delete-identifier g e) = omega arith
 
-          repeated : (b : Bool) → repeats byteView versionKeys part ≡ b → AtPart fromRepeats
+          repeated : (b : Bool) → repeats byteView versionKeys part ≡ b → AtPart fromKeys
           repeated true n = now (t, tells, in-version is n) (rw (is, w, h, f, n))
           repeated false n = once twice (rules (isValid i) refl)
             where
@@ -270,7 +288,7 @@ module _ (limit tag : ℕ) (s : List ℕ) (t : Told) (tells : HeaderTells limit 
                   broken (texts-break g k e x) = let same : k ≡ i = cc in clash (ap isValid same ∙ r) x
                   broken (delete-identifier-breaks g k e x) = omega arith
 
-  delete-rows : tag ≡ versionDeleteTag → AtPart fromFilling
+  delete-rows : tag ≡ versionDeleteTag → AtPart fromPart
   unfolding contents primary.versionDelete identityOf ulidOf isLookedAt
   delete-rows is = filling (λ w. rw (is, w)) (λ w. texts w (textsUnder byteView part) refl (textUnder byteView deleteIdKey part) refl)
     where
@@ -286,7 +304,7 @@ module _ (limit tag : ℕ) (s : List ℕ) (t : Told) (tells : HeaderTells limit 
           missing (no-boolean g e) = omega arith
           missing (no-delete-identifier g e) = absurd-numbers (cc)
 
-          repeated : (b : Bool) → repeats byteView versionDeleteKeys part ≡ b → AtPart fromRepeats
+          repeated : (b : Bool) → repeats byteView versionDeleteKeys part ≡ b → AtPart fromKeys
           repeated true n = now (t, tells, in-version-delete is n) (rw (is, w, h, f, n))
           repeated false n = once twice (rules (isValid i) refl (isUlid d) refl)
             where
@@ -305,11 +323,11 @@ module _ (limit tag : ℕ) (s : List ℕ) (t : Told) (tells : HeaderTells limit 
                   broken (texts-break g k e x) = let same : k ≡ i = cc in clash (ap isValid same ∙ r) x
                   broken (delete-identifier-breaks g k e x) = let same : k ≡ d = cc in clash (ap isUlid same ∙ u) x
 
-  three-tags : isKnown tag ≡ true → AtPart fromFilling
+  three-tags : isKnown tag ≡ true → AtPart fromPart
   unfolding isKnown
   three-tags e = by (eqb tag blockTag) refl (eqb tag versionTag) refl e
     where
-      by : (b : Bool) → eqb tag blockTag ≡ b → (c : Bool) → eqb tag versionTag ≡ c → (b || c || eqb tag versionDeleteTag) ≡ true → AtPart fromFilling
+      by : (b : Bool) → eqb tag blockTag ≡ b → (c : Bool) → eqb tag versionTag ≡ c → (b || c || eqb tag versionDeleteTag) ≡ true → AtPart fromPart
       by true p c q f = block-rows (eqb-true _ _ p)
       by false p true q f = version-rows (eqb-true _ _ q)
       by false p false q f = delete-rows (eqb-true _ _ f)
@@ -319,27 +337,27 @@ module _ (limit tag : ℕ) (s : List ℕ) (t : Told) (tells : HeaderTells limit 
   abbrev toldAnswer : Answer Record
   toldAnswer = unless (lowest (toldRows tag (tellingOf t))) answer
 
-  told-rows : Outcome Here toldAnswer (tag-unknown ∷ version-not-0 ∷ part-encoded ∷ fromFilling)
+  told-rows : Outcome Here toldAnswer fromTag
   unfolding toldRows lowest
   told-rows = known (isKnown tag) refl
     where
-      known : (b : Bool) → isKnown tag ≡ b → Outcome Here toldAnswer (tag-unknown ∷ version-not-0 ∷ part-encoded ∷ fromFilling)
+      known : (b : Bool) → isKnown tag ≡ b → Outcome Here toldAnswer fromTag
       known false k = now k (rw k)
       known true k = pass (λ x. clash k x) (version (eqb (t .version) 0) refl)
         where
-          version : (b : Bool) → eqb (t .version) 0 ≡ b → Outcome Here toldAnswer (version-not-0 ∷ part-encoded ∷ fromFilling)
+          version : (b : Bool) → eqb (t .version) 0 ≡ b → Outcome Here toldAnswer fromVersion
           version false v = now (t, tells, eqb-false _ _ v) (rw (k, v))
           version true v =
               pass (only (λ u. u .version ≡ 0 → ⊥) (λ x. x (eqb-true _ _ v))) (encoded (t .primary .encrypted) refl (eqb (t .primary .compression) 0) refl)
             where
               encoded : (b : Bool) → t .primary .encrypted ≡ b → (d : Bool) → eqb (t .primary .compression) 0 ≡ d
-                  → Outcome Here toldAnswer (part-encoded ∷ fromFilling)
+                  → Outcome Here toldAnswer fromEncoding
               encoded true z d c = now (t, tells, inl z) (rw (k, v, z))
               encoded false z false c = now (t, tells, inr (eqb-false _ _ c)) (rw (k, v, z, c))
               encoded false z true c =
                   let is : answer ≡ toldAnswer = rw (k, v, z, c) in
                   pass (only (λ u. (u .primary .encrypted ≡ true) ⊎ (u .primary .compression ≡ 0 → ⊥)) (⊎-elim (λ x. clash x z) (λ x. x (eqb-true _ _ c))))
-                  (subst (λ a. Outcome Here a fromFilling) is (three-tags k))
+                  (subst (λ a. Outcome Here a fromPart) is (three-tags k))
 
 -- ---- 9 to 12, and 22
 
@@ -347,16 +365,14 @@ module _ (limit tag : ℕ) (s : List ℕ) where
   abbrev AtValue : List Row → Type 0
   AtValue rows = Outcome (Applies limit tag s) (readRecord limit tag s) rows
 
-  header-rows : (n : ℕ) → passOver s ≡ whole n
-      → AtValue (header-not-described ∷ header-key-repeats ∷ value-not-filled ∷ tag-unknown ∷ version-not-0 ∷ part-encoded ∷ fromFilling)
+  header-rows : (n : ℕ) → passOver s ≡ whole n → AtValue fromHeader
   unfolding readRecord value.reading
   header-rows n p = described-by (header limit (take n s)) refl
     where
       of-size : {A : Type 0} (f : List ℕ → A) (m : ℕ) → passOver s ≡ whole m → f (take m s) ≡ f (take n s)
       of-size f m q = let same : m ≡ n = let e = sym q ∙ p in cc in ap (λ k. f (take k s)) same
 
-      described-by : (o : Option Told) → header limit (take n s) ≡ o
-          → AtValue (header-not-described ∷ header-key-repeats ∷ value-not-filled ∷ tag-unknown ∷ version-not-0 ∷ part-encoded ∷ fromFilling)
+      described-by : (o : Option Told) → header limit (take n s) ≡ o → AtValue fromHeader
       described-by none h = now (n, p, h) (rw (p, h))
       described-by (some t) h =
           pass (λ x. let e = sym (x .2) ∙ of-size (header limit) (x .0) (x .1) ∙ h in absurd-numbers (cc)) (repeated (headerRepeats byteView (take n s)) refl)
@@ -364,13 +380,12 @@ module _ (limit tag : ℕ) (s : List ℕ) where
           tells : HeaderTells limit s t
           tells = record { size = n; item = p; described = h }
 
-          filled : headerRepeats byteView (take n s) ≡ false → (b : Bool) → eqb (n + t .secondary .len) (length s) ≡ b
-              → AtValue (value-not-filled ∷ tag-unknown ∷ version-not-0 ∷ part-encoded ∷ fromFilling)
+          filled : headerRepeats byteView (take n s) ≡ false → (b : Bool) → eqb (n + t .secondary .len) (length s) ≡ b → AtValue fromFilling
           filled r false f = now (t, tells, eqb-false _ _ f) (rw (p, h, r, f))
           filled r true f =
               let is : toldAnswer limit tag s t tells ≡ readRecord limit tag s = rw (p, h, r, f) in
               pass (λ x. x .2 (sizes (x .0) (x .1) ∙ eqb-true _ _ f))
-              (subst (λ a. Outcome (Applies limit tag s) a (tag-unknown ∷ version-not-0 ∷ part-encoded ∷ fromFilling)) is (told-rows limit tag s t tells))
+              (subst (λ a. Outcome (Applies limit tag s) a fromTag) is (told-rows limit tag s t tells))
             where
               sizes : (u : Told) (x : HeaderTells limit s u) → x .size + u .secondary .len ≡ n + t .secondary .len
               sizes u x =
@@ -378,14 +393,13 @@ module _ (limit tag : ℕ) (s : List ℕ) where
                   let same : u ≡ t = one-told x tells in
                   rw (size, same)
 
-          repeated : (b : Bool) → headerRepeats byteView (take n s) ≡ b
-              → AtValue (header-key-repeats ∷ value-not-filled ∷ tag-unknown ∷ version-not-0 ∷ part-encoded ∷ fromFilling)
+          repeated : (b : Bool) → headerRepeats byteView (take n s) ≡ b → AtValue fromHeaderKeys
           repeated true r = now (n, p, r) (rw (p, h, r))
           repeated false r =
               pass (λ x. clash (x .2) (of-size (headerRepeats byteView) (x .0) (x .1) ∙ r)) (filled r (eqb (n + t .secondary .len) (length s)) refl)
 
   by-sheet : AtValue sheet
-  unfolding sheet readRecord value.reading
+  unfolding readRecord value.reading
   by-sheet = by (passOver s) refl
     where
       by : (p : Passage) → passOver s ≡ p → AtValue sheet
@@ -396,36 +410,36 @@ module _ (limit tag : ℕ) (s : List ℕ) where
 -- ---- the theorems
 
 -- every row stands in the list
+first : {r : Row} {rs : List Row} → List·Memᴰ r (r ∷ rs)
+first = List·Memᴰ·head refl
+
 stands : (r : Row) → List·Memᴰ r sheet
-unfolding sheet
-stands no-whole-item = List·Memᴰ·head refl
-stands depth-17 = List·Memᴰ·tail (List·Memᴰ·head refl)
-stands header-not-described = List·Memᴰ·tail (List·Memᴰ·tail (List·Memᴰ·head refl))
-stands header-key-repeats = List·Memᴰ·tail (List·Memᴰ·tail (List·Memᴰ·tail (List·Memᴰ·head refl)))
-stands value-not-filled = List·Memᴰ·tail (List·Memᴰ·tail (List·Memᴰ·tail (List·Memᴰ·tail (List·Memᴰ·head refl))))
-stands tag-unknown = List·Memᴰ·tail (List·Memᴰ·tail (List·Memᴰ·tail (List·Memᴰ·tail (List·Memᴰ·tail (List·Memᴰ·head refl)))))
-stands version-not-0 = List·Memᴰ·tail (List·Memᴰ·tail (List·Memᴰ·tail (List·Memᴰ·tail (List·Memᴰ·tail (List·Memᴰ·tail (List·Memᴰ·head refl))))))
-stands part-encoded = List·Memᴰ·tail (List·Memᴰ·tail (List·Memᴰ·tail (List·Memᴰ·tail (List·Memᴰ·tail (List·Memᴰ·tail (List·Memᴰ·tail (List·Memᴰ·head refl)))))))
-stands part-not-filled = List·Memᴰ·tail (List·Memᴰ·tail (List·Memᴰ·tail (List·Memᴰ·tail (List·Memᴰ·tail (List·Memᴰ·tail (List·Memᴰ·tail (List·Memᴰ·tail (List·Memᴰ·head refl))))))))
-stands part-not-described = List·Memᴰ·tail (List·Memᴰ·tail (List·Memᴰ·tail (List·Memᴰ·tail (List·Memᴰ·tail (List·Memᴰ·tail (List·Memᴰ·tail (List·Memᴰ·tail (List·Memᴰ·tail (List·Memᴰ·head refl)))))))))
-stands part-key-repeats = List·Memᴰ·tail (List·Memᴰ·tail (List·Memᴰ·tail (List·Memᴰ·tail (List·Memᴰ·tail (List·Memᴰ·tail (List·Memᴰ·tail (List·Memᴰ·tail (List·Memᴰ·tail (List·Memᴰ·tail (List·Memᴰ·head refl))))))))))
-stands rules-broken = List·Memᴰ·tail (List·Memᴰ·tail (List·Memᴰ·tail (List·Memᴰ·tail (List·Memᴰ·tail (List·Memᴰ·tail (List·Memᴰ·tail (List·Memᴰ·tail (List·Memᴰ·tail (List·Memᴰ·tail (List·Memᴰ·tail (List·Memᴰ·head refl)))))))))))
+stands no-whole-item = first
+stands depth-17 = past first
+stands header-not-described = past (past first)
+stands header-key-repeats = past (past (past first))
+stands value-not-filled = past (past (past (past first)))
+stands tag-unknown = past (past (past (past (past first))))
+stands version-not-0 = past (past (past (past (past (past first)))))
+stands part-encoded = past (past (past (past (past (past (past first))))))
+stands part-not-filled = past (past (past (past (past (past (past (past first)))))))
+stands part-not-described = past (past (past (past (past (past (past (past (past first))))))))
+stands part-key-repeats = past (past (past (past (past (past (past (past (past (past first)))))))))
+stands rules-broken = past (past (past (past (past (past (past (past (past (past (past first))))))))))
 
 module _ (limit tag : ℕ) (s : List ℕ) where
-  abbrev FirstApplies : Row → Type 0
-  FirstApplies r = First (Applies limit tag s) sheet r
+  abbrev FirstFor : ℕ → Type 0
+  FirstFor n = (r : Row) × First (Applies limit tag s) sheet r × (number r ≡ n)
 
   -- refused with n exactly when n is the number of the first row that applies
   pub refused-exactly : (n : ℕ) → readRecord limit tag s ≡ refused n ↔ ((r : Row) × First (Applies limit tag s) sheet r × (number r ≡ n))
   refused-exactly n = (there (by-sheet limit tag s), back (by-sheet limit tag s))
     where
-      there : Outcome (Applies limit tag s) (readRecord limit tag s) sheet → readRecord limit tag s ≡ refused n
-          → (r : Row) × First (Applies limit tag s) sheet r × (number r ≡ n)
+      there : AtValue limit tag s sheet → readRecord limit tag s ≡ refused n → FirstFor n
       there (refuses r f e) g = (r, f, cc)
       there (reads no-row x e) g = absurd-numbers (cc)
 
-      back : Outcome (Applies limit tag s) (readRecord limit tag s) sheet → (r : Row) × First (Applies limit tag s) sheet r × (number r ≡ n)
-          → readRecord limit tag s ≡ refused n
+      back : AtValue limit tag s sheet → FirstFor n → readRecord limit tag s ≡ refused n
       back (refuses q f e) x = e ∙ ap (λ r. refused (number r)) (one-first f (x .1)) ∙ ap refused (x .2)
       back (reads no-row y e) x = absurd (no-row (x .0) (first-stands (x .1)) (first-applies (x .1)))
 
@@ -433,19 +447,25 @@ module _ (limit tag : ℕ) (s : List ℕ) where
   pub read-exactly : ((x : Record) × (readRecord limit tag s ≡ result x)) ↔ ((r : Row) → Applies limit tag s r → ⊥)
   read-exactly = (there (by-sheet limit tag s), back (by-sheet limit tag s))
     where
-      there : Outcome (Applies limit tag s) (readRecord limit tag s) sheet → (x : Record) × (readRecord limit tag s ≡ result x)
-          → (r : Row) → Applies limit tag s r → ⊥
+      there : AtValue limit tag s sheet → (x : Record) × (readRecord limit tag s ≡ result x) → (r : Row) → Applies limit tag s r → ⊥
       there (refuses q f e) x r = absurd-numbers (let g = x .1 in cc)
       there (reads no-row y e) x r = no-row r (stands r)
 
-      back : Outcome (Applies limit tag s) (readRecord limit tag s) sheet → ((r : Row) → Applies limit tag s r → ⊥)
-          → (x : Record) × (readRecord limit tag s ≡ result x)
+      back : AtValue limit tag s sheet → ((r : Row) → Applies limit tag s r → ⊥) → (x : Record) × (readRecord limit tag s ≡ result x)
       back (refuses q f e) no-row = absurd (no-row q (first-applies f))
-      back (reads nothing y e) no-row = (y, e)
+      back (reads none-of-these y e) no-row = (y, e)
 
-  -- "can be read"; 13 applies to no `vr` or `vd`
+  -- "can be read"; to a `vr` or `vd`, 13 does not apply
   pub can-be-read-exactly : canBeRead limit tag s ≡ true ↔ ((r : Row) → Applies limit tag s r → ⊥)
   can-be-read-exactly = (
     λ e. read-exactly .0 (the-record limit tag s e),
     λ no-row. let x = read-exactly .1 no-row in can-be-read limit tag s .1 (λ n e. let g = x .1 in absurd-numbers (cc)),
   )
+
+pub looked-at-is-known : (limit tag : ℕ) (s : List ℕ) → isLookedAt tag ≡ true → Applies limit tag s tag-unknown → ⊥
+unfolding isLookedAt isKnown
+looked-at-is-known limit tag s looked unknown = by (eqb tag blockTag) (eqb tag versionTag) (eqb tag versionDeleteTag) looked unknown
+  where
+    by : (a b c : Bool) → (b || c) ≡ true → (a || b || c) ≡ false → ⊥
+    by true b c p q = absurd-numbers (cc)
+    by false b c p q = clash p q
