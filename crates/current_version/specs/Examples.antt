@@ -53,7 +53,7 @@ scan = 0x73 ∷ []  -- s
 abbrev pub one : ℕ
 one = 0x31  -- 1
 
-abbrev two : ℕ
+abbrev pub two : ℕ
 two = 0x32  -- 2
 
 abbrev three : ℕ

@@ -1,11 +1,13 @@
 -- The relations that the demands are said with here tell things apart: what differs in one respect alone is not related. Those of crates below have
 -- a file of this name there.
 use Prim.Native.Nat.{ℕ}
+use mathlib.Core.Bool.{true}
 use mathlib.Core.List.{List, _∷_}
 use mathlib.Core.Option.{Option, none, some}
 use mathlib.Core.Path.{_≡_, sym, subst, _∙_}
 use lib.ListN.{take, drop}
 use Rattle.slices.specs.Logic.{absurd-numbers}
+use Rattle.refusals.specs.Limit.{packLimit}
 use Rattle.refusals.specs.Answers.{result}
 use Rattle.pack.specs.declared.Entry.{Entry}
 use Rattle.pack.specs.Reading.{whole, reading}
@@ -15,11 +17,14 @@ use Rattle.records_model.specs.Record.{recordIn}
 use Rattle.writer.specs.Writing.{Item, tagOf, valueOf}
 use Rattle.writer_laws.specs.Meaning.{heldOf}
 use Rattle.writer_laws.specs.Calls.{all-written, stopped, writeAll}
-use Rattle.current_version.specs.Current.{Answer, lookup}
+use Rattle.current_version.specs.Current.{Answer, isName, lookup}
 use Rattle.current_version.specs.Packs.{ReadablePack, SameAnswer}
-use Rattle.current_version.specs.Bytes.{takenOutOf}
+use Rattle.current_version.specs.Bytes.{takenOutOf, SameRecordsIn, OneValueIn}
+use Rattle.lookup.specs.Answers.{foundOf}
 use Rattle.demands.specs.ReadBack.{Means, AllMean, next, ReadsBack}
 use Rattle.demands.specs.Deletion.{deletedBy, TakesOut}
+use Rattle.demands.specs.Answers.{OrderHolds}
+use Rattle.demands.specs.declared.Both.{Both}
 
 -- ---- a deletion
 
@@ -82,3 +87,16 @@ module _ (limit : ℕ) (items : List Item) (buf : List ℕ) where
 
     pub readings-differ : (AllMean limit (take n exit) items (reading limit (take n exit) .entries) → ⊥) → ⊥
     readings-differ d = d (rw (← same-count, ← same-exit) (x .reads))
+
+-- ---- a lookup in two packs
+
+module _ (first second bucket object : List ℕ) (r : Both) (x : OrderHolds first second bucket object r) where
+  pub first-answer-differs : (foundOf first (r .first) ≡ lookup packLimit first bucket object → ⊥) → ⊥
+  first-answer-differs d = d (x .first-is)
+
+  pub second-answer-differs : (foundOf second (r .second) ≡ lookup packLimit second bucket object → ⊥) → ⊥
+  second-answer-differs d = d (x .second-is)
+
+  pub the-answers-differ : ReadablePack packLimit first → ReadablePack packLimit second → SameRecordsIn packLimit first second
+      → OneValueIn packLimit first → isName bucket object ≡ true → (SameAnswer (foundOf first (r .first)) (foundOf second (r .second)) → ⊥) → ⊥
+  the-answers-differ p q same one name d = d (x .alike p q same one name)
