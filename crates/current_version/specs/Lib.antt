@@ -8,3 +8,4 @@ pub mod Order
 pub mod Bytes
 pub mod Alike
 pub mod Examples
+pub mod TellsApart

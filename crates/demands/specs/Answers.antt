@@ -28,6 +28,7 @@ use Rattle.lookup.specs.Answers.{foundOf, FoundInside}
 use Rattle.lookup.specs.declared.Found.{Found}
 use Rattle.demands.specs.Added.{Extends}
 use Rattle.demands.specs.Deletion.{TakesOut}
+use Rattle.demands.specs.Sites.{AlikePacks, AlikeLookups}
 use Rattle.demands.specs.declared.Deletion.{Deletion}
 use Rattle.demands.specs.declared.Deletion.the-variants as deletion-answer
 use Rattle.demands.specs.declared.Deletion.the-variants.{LookedUp}
@@ -97,7 +98,7 @@ pub record DeletionHolds (used : ℕ) (asked : Option Item) (before bucket objec
 
 -- ---- a lookup in two packs
 
-pub record OrderHolds (first second bucket object : List ℕ) (r : Both) : Type 0 where
+pub record BothHold (first second bucket object : List ℕ) (r : Both) : Type 0 where
   pub first-is : foundOf first (r .first) ≡ lookup packLimit first bucket object
   pub second-is : foundOf second (r .second) ≡ lookup packLimit second bucket object
   pub first-inside : FoundInside first (r .first)
@@ -106,6 +107,8 @@ pub record OrderHolds (first second bucket object : List ℕ) (r : Both) : Type 
   -- records that share an identifier have equal values, the answers for an object are the same
   pub alike : ReadablePack packLimit first → ReadablePack packLimit second → SameRecordsIn packLimit first second
       → OneValueIn packLimit first → isName bucket object ≡ true → SameAnswer (foundOf first (r .first)) (foundOf second (r .second))
+  -- demand 2: where the records of both are alike one by one, so are the answers
+  pub sites : AlikePacks packLimit first second → AlikeLookups packLimit first second (foundOf first (r .first)) (foundOf second (r .second))
 
 -- ---- a record written, and read at its place
 

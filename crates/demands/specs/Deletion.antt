@@ -88,7 +88,7 @@ module _ (limit : ℕ) (small : limit < 2 ^ 32) (item : Item) (used n : ℕ) (bu
       let names : h .found .contents .identifier ≡ d .identifier = ap (λ (c : Contents). c .identifier) (h .same-contents) ∙ d .names in
       record {
         identifier = d .identifier;
-        is-deleted = d .is-deleted;
+        is-deleted = cc (d .is-deleted);
         left = taken-out limit (d .identifier) (take used buf) bytes readable;
         same = rw (record-appended limit small item used n buf wrote, ← names)
             (deletion-answers-as-taken-out limit (take used buf) (recordFor item) (h .found) bucket object bytes readable

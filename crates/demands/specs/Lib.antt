@@ -6,3 +6,4 @@ pub mod Added
 pub mod Deletion
 pub mod Sheet
 pub mod Answers
+pub mod TellsApart

@@ -96,8 +96,8 @@ module _ (limit : ℕ) (small : limit < 2 ^ 32) where
       record {
         tag = refl;
         found = held .found;
-        there-is = at ∙ ap (atPlace (valueOf item)) (held .is);
-        holds = ap (recordIn (valueOf item)) (sym (held .is)) ∙ item-reads limit small item b a m;
+        there-is = cc (at ∙ ap (atPlace (valueOf item)) (held .is));
+        holds = cc (ap (recordIn (valueOf item)) (sym (held .is)) ∙ item-reads limit small item b a m);
       }
 
   all-mean : (items : List Item) (front : List ℕ) → AllBytesOf items → AllAdmitted items → length (front ++ layouts (recordsOf items)) ≤ limit
@@ -133,7 +133,7 @@ module _ (limit : ℕ) (small : limit < 2 ^ 32) where
       record {
         count = n;
         exit = overwritten buf 0 e;
-        written = wrote;
+        written = cc (wrote);
         behind = rw (sum, is) (drop-at e (drop (length e) buf) (length e) refl);
         accepted = rw (front, read-all);
         reads = rw (front, read-all) (all-mean items [] b a l);

@@ -9,7 +9,6 @@ use lib.ListN.{length, length-append}
 use lib.Seq.{drop-append-seam}
 use Rattle.slices.specs.Bytes.{AllBytes}
 use Rattle.refusals.specs.Answers.{Answer, refused, result}
-use Rattle.refusals.specs.Limit.{packLimit}
 use Rattle.tlv.specs.Layout.{Record, layout, layouts}
 use Rattle.pack.specs.declared.Entry.{Entry}
 use Rattle.pack.specs.Reading.{Reading, whole, reading}
@@ -27,8 +26,6 @@ use Rattle.current_version.specs.Current as current
 use Rattle.current_version.specs.Current.{Role, unreadable, roleBy, roleOf, isLookedAt, role, valueOf, placed, lookup}
 use Rattle.current_version.specs.Packs.{value-standing}
 use Rattle.current_version.specs.Alike.{AlikeRoles, versions, deletions, others, unreadables, AlikePlaced, AlikeAnswers, lookups-alike}
-use Rattle.lookup.specs.Answers.{foundOf}
-use Rattle.lookup.specs.declared.Found.{Found}
 
 -- ---- packs alike
 
@@ -190,8 +187,3 @@ pub sites-look-up-alike : (limit : ℕ) (s t bucket object : List ℕ) → Alike
 sites-look-up-alike limit s t bucket object x =
     lookups-alike NumbersAlike (SameIndex (reading limit s .entries) (reading limit t .entries)) AlikeRecordValues limit s t
     (x .first-accepted) (x .second-accepted) (placed-alike limit (λ p q i. i) (x .entries)) bucket object
-
--- and of any two answers of the code, which are these
-pub sites-find-alike : (s t bucket object : List ℕ) (f g : Found) → AlikePacks packLimit s t → foundOf s f ≡ lookup packLimit s bucket object
-    → foundOf t g ≡ lookup packLimit t bucket object → AlikeLookups packLimit s t (foundOf s f) (foundOf t g)
-sites-find-alike s t bucket object f g x p q = rw (p, q) (sites-look-up-alike packLimit s t bucket object x)

@@ -6,7 +6,7 @@ ghost use mathlib.Core.Option.{some};
 ghost use Rattle.identifier.specs.Held.{named};
 ghost use Rattle.writer.specs.Writing.{block, version, versionDelete, deletion, ofIdentity, answerOf};
 ghost use Rattle.current_version.specs.Current.{isName};
-ghost use Rattle.demands.specs.Answers.{ofFront, CountInside, answersOf, lookedUp, WritesFor, DeletionInside, DeletionHolds, OrderHolds, readBackOf, readBehind, ReadInside, ReadBackHolds};
+ghost use Rattle.demands.specs.Answers.{ofFront, CountInside, answersOf, lookedUp, WritesFor, DeletionInside, DeletionHolds, BothHold, readBackOf, readBehind, ReadInside, ReadBackHolds};
 use identifier::Identifier;
 use lookup::Found;
 use records::AtPlace;
@@ -107,7 +107,7 @@ pub struct Both {
 }
 
 pub fn look_up_in_both(first: &[u8], second: &[u8], bucket: &[u8], object: &[u8]) -> Both
-    ensures { λ r. ⌜ OrderHolds (now (first .entry)) (now (second .entry)) (now (bucket .entry)) (now (object .entry)) r ⌝ }
+    ensures { λ r. ⌜ BothHold (now (first .entry)) (now (second .entry)) (now (bucket .entry)) (now (object .entry)) r ⌝ }
 {
     let found = lookup::lookup(first, bucket, object);
     Both {
