@@ -11,7 +11,7 @@ mod records;
 mod timing;
 mod tlv;
 
-use records::{object, version, version_delete, Pack, BUCKET};
+use records::{object, version, version_delete, Order, Pack, BUCKET};
 
 // The proved function, from target/staticlib/libvof.a.
 #[link(name = "vof", kind = "static")]
@@ -221,28 +221,26 @@ fn python(pack: &[u8], object: &str) -> Option<(String, f64)> {
     Some((ulid.to_string(), milliseconds.parse().unwrap()))
 }
 
-fn measure(versions: usize, objects: usize, deleted: usize) {
-    let pack = Pack::new(versions, objects, deleted);
+fn measure(what: &str, pack: Pack) {
     let name = object(0);
     let (mut p_answer, mut r_answer) = (Ok(None), Ok(None));
     let (p, r) = timing::compare(
         || p_answer = black_box(proved(black_box(&pack.bytes), BUCKET, &name)),
         || r_answer = black_box(rust(black_box(&pack.bytes), BUCKET, &name)),
     );
-    let what = format!("{versions} versions, {deleted} deleted");
     let want = pack.current.as_ref().map(|(start, _)| *start);
-    expect(Ok(want), p_answer, r_answer, &what);
+    expect(Ok(want), p_answer, r_answer, what);
     let (p, r, len) = (p / 1e6, r / 1e6, pack.bytes.len());
-    print!("{versions:8} {objects:8} {deleted:8} {len:9} {p:11.2} {r:9.2}");
+    print!("{what:36} {len:9} {p:11.4} {r:9.4}");
     match python(&pack.bytes, &name) {
         Some((ulid, y)) => {
             let want = pack.current.map_or("nothing".to_string(), |(_, ulid)| ulid);
             if ulid != want {
                 fail(&format!("{what}: Python gives {ulid}, not {want}"));
             }
-            println!(" {y:11.2} {:13.1} {:15.2}", p / r, p / y);
+            println!(" {y:11.3} {:13.2} {:15.3}", p / r, p / y);
         }
-        None => println!(" {:>11} {:13.1}", "absent", p / r),
+        None => println!(" {:>11} {:13.2}", "absent", p / r),
     }
 }
 
@@ -252,21 +250,39 @@ fn main() {
     println!("Current version, best round of each; a ratio under 1.00 means that proved is faster");
     println!("Python needs Debian's python3-msgpack and python3-xxhash");
     println!(
-        "versions  objects  deleted     bytes   proved ms   Rust ms   Python ms   proved/Rust   \
-         proved/Python"
+        "{:36}     bytes   proved ms   Rust ms   Python ms   proved/Rust   proved/Python",
+        "versions, deleted"
     );
+    for (versions, deleted) in [(1, 0), (1, 1)] {
+        measure(
+            &format!("{versions}, {deleted}"),
+            Pack::new(versions, 1, deleted),
+        );
+    }
     for versions in [1_000, 10_000, 100_000] {
-        measure(versions, OBJECTS, 0);
+        measure(&format!("{versions}, 0"), Pack::new(versions, OBJECTS, 0));
     }
     for deleted in [1, 10, 100] {
-        measure(10_000, OBJECTS, deleted);
+        measure(
+            &format!("10000, newest {deleted}"),
+            Pack::new(10_000, OBJECTS, deleted),
+        );
     }
     // The worst case: all versions of the one object deleted.
-    for versions in [100, 1_000] {
-        measure(versions, 1, versions);
+    let orders = [
+        ("rising", Order::Rising),
+        ("falling", Order::Falling),
+        ("mixed", Order::Mixed),
+    ];
+    for versions in [100, 1_000, 10_000, 100_000, 400_000] {
+        for (name, order) in orders {
+            let what = format!("{versions}, all, {name}");
+            measure(&what, Pack::all_deleted(versions, 1, order));
+        }
     }
-    // Takes long, as the time grows with the square.
-    if std::env::var_os("WORST").is_some() {
-        measure(10_000, 1, 10_000);
+    // No more versions than it takes to need as many turns: a version where the hints end.
+    for (name, order) in orders {
+        let what = format!("25, 200000 deletions, {name}");
+        measure(&what, Pack::all_deleted(200_000, 8_193, order));
     }
 }

@@ -104,8 +104,25 @@ fn value(primary: Vec<u8>) -> Vec<u8> {
     map(&[("e", bytes(&primary))])
 }
 
-/// A pack with versions of several objects in turn, and after them the deletion of the newest of the
-/// first object's.
+/// The order of the records of a pack in which everything is deleted.
+#[derive(Clone, Copy)]
+pub enum Order {
+    Rising,
+    Falling,
+    Mixed,
+}
+
+impl Order {
+    fn numbers(self, count: usize) -> Vec<usize> {
+        match self {
+            Order::Rising => (0..count).collect(),
+            Order::Falling => (0..count).rev().collect(),
+            // A step that shares no factor with the count comes to every number once.
+            Order::Mixed => (0..count).map(|k| k * 7_919 % count).collect(),
+        }
+    }
+}
+
 pub struct Pack {
     pub bytes: Vec<u8>,
     /// The first object's current version: its record's start and its ULID.
@@ -113,6 +130,8 @@ pub struct Pack {
 }
 
 impl Pack {
+    /// Versions of several objects in turn, and after them the deletion of the newest of the first
+    /// object's.
     pub fn new(versions: usize, objects: usize, deleted: usize) -> Self {
         let (mut bytes, mut starts) = (Vec::new(), Vec::new());
         for number in 0..versions {
@@ -128,6 +147,22 @@ impl Pack {
         Pack {
             bytes,
             current: current.map(|number| (starts[number], ulid(number))),
+        }
+    }
+
+    /// Versions of one object, one for every so many deletions, and after them the deletions, both in
+    /// this order.
+    pub fn all_deleted(deletions: usize, every: usize, order: Order) -> Self {
+        let (numbers, mut bytes) = (order.numbers(deletions), Vec::new());
+        for &number in numbers.iter().filter(|&number| number % every == 0) {
+            tlv::append(&mut bytes, *b"vr", &version(number, &object(0), false));
+        }
+        for &number in &numbers {
+            tlv::append(&mut bytes, *b"vd", &version_delete(number, &object(0)));
+        }
+        Pack {
+            bytes,
+            current: None,
         }
     }
 }

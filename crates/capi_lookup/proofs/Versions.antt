@@ -16,9 +16,10 @@ use Rattle.pack.specs.Acceptance.{accepted-reading}
 use Rattle.identifier.specs.Ulid.{ulid-length}
 use Rattle.current_version.specs.Current.{Version, nothing, found, refusedAt, alone, lookup}
 use Rattle.current_version.specs.Exactly.{current-member, lookup-exactly}
-use Rattle.lookup.specs.Walk.{placedFrom}
+use Rattle.lookup_records.specs.Answers.{valueIn}
+use Rattle.lookup_records.specs.Walk.{placedFrom}
 use Rattle.lookup.specs.Search.{walk-ulids}
-use Rattle.lookup.specs.Answers.{valueIn, versionIn, foundOf, VersionInside}
+use Rattle.lookup.specs.Answers.{versionIn, foundOf, VersionInside}
 use Rattle.lookup.specs.declared.Version as declared-version
 use Rattle.lookup.specs.declared.Found.{Found}
 use Rattle.lookup.specs.declared.Found.the-variants.{Nothing, Current}
@@ -87,7 +88,7 @@ module _ (s bucket object told ulid : List ℕ) (f : Found) (looked : foundOf s 
       let e : found (versionIn s v) ≡ lookup packLimit s bucket object = sym (ap (foundOf s) is) ∙ looked in
       let text : length (partAt s (v .identifier .ulid)) ≡ 26 = found-length packLimit s bucket object (versionIn s v) (sym e) in
       let value : length (valueIn s (v .start) (v .len)) ≡ v .len
-      = length-take-le (v .len) (drop 32 (drop (v .start) s)) (rw (length-drop, length-drop) (omega (arith, inside .value))) in
+      = length-take-le (v .len) (drop 32 (drop (v .start) s)) (rw (length-drop, length-drop) (omega (arith, inside .value .inside .end))) in
       rw (← e, value) (rw text at h)
 
   pub answers-refused : (n place : ℕ) → foundOf s f ≡ refusedAt n place → n < 256 → Answers (answer n place % 2 ^ 64) told ulid

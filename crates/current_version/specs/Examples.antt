@@ -151,11 +151,12 @@ pub rows-hold : map (λ (r : Row). lookup packLimit (r .pack) (r .bucket) (r .ob
 unfolding rows layouts layout head fields bytesOf bigBytes littleBytes little big add mul rotl foldHigh lane taken round
     mergeAccumulator converge stripes consume8 consume4 consume1 consume avalanche xxh64 field headerRows valueRows
     lowest headerOf step records reading passItem passHead passItems headOf isWhole contentAt readBoolean integerOf
-    readInteger countAt keyAt sameBytes lastWhere lastValue repeats timesOf timesWhere itemsFrom formatOf formats numberAt holds
-    naturalUnder bytesUnder isThere value-header.alone value-header.telling value-header.headerRepeats withMap withList header value.reading fills textAt textUnder
-    textsUnder deletedUnder ulidOf primary.version primary.versionDelete isUlid isCharacter alphabet isBucket isObject
-    isValid identityOf sized member all isKnown contents toldRows readRecord isLookedAt role less hasName sameIdentity
-    versionOf filtered better best deletes isDeleted isLive current readability answerIn isName lookup
+    readInteger countAt keyAt sameBytes lastWhere lastValue repeats timesOf timesWhere itemsFrom formatOf formats
+    numberAt holds naturalUnder bytesUnder isThere value-header.alone value-header.telling value-header.headerRepeats
+    withMap withList header value.reading fills textAt textUnder textsUnder deletedUnder ulidOf primary.version
+    primary.versionDelete isUlid isCharacter alphabet isBucket isObject isValid identityOf sized member all isKnown
+    contents toldRows readRecord isLookedAt role less hasName sameIdentity versionOf filtered better best deletes
+    isDeleted isLive current readability answerIn isName lookup
 rows-hold = refl
 
 -- ---- ORDER without its premise: the same two records, and two answers

@@ -103,7 +103,8 @@ cases =
     ∷ packRefused (set sample 31 0x15) 6 0
     ∷ packRefused (set sample 45 0x62) 8 0
     -- K, a value with both parts; L, its first 39 bytes
-    ∷ valueCase valueSample (refusals.result (record { version = 0; primary = part 12 16 (coding 0 false); present = true; secondary = part 28 12 (coding 0 false) }))
+    ∷ valueCase valueSample
+    (refusals.result (record { version = 0; primary = part 12 16 (coding 0 false); present = true; secondary = part 28 12 (coding 0 false) }))
     ∷ valueCase (take 39 valueSample) (refusals.refused 12)
     -- M: the empty map, and the empty value
     ∷ valueCase (0x80 ∷ []) (refusals.refused 11)

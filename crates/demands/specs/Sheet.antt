@@ -37,7 +37,8 @@ pub data PartApplies (tag : ℕ) (part : List ℕ) : ℕ → Type 0 where
   version-key-repeats : tag ≡ versionTag → repeats byteView versionKeys part ≡ true → PartApplies tag part 22
   delete-key-repeats : tag ≡ versionDeleteTag → repeats byteView versionDeleteKeys part ≡ true → PartApplies tag part 22
   identifier-breaks-rules : (i : Identity) → textsUnder byteView part ≡ some i → isValid i ≡ false → PartApplies tag part 18
-  delete-identifier-breaks-rules : tag ≡ versionDeleteTag → (t : List ℕ) → textUnder byteView deleteIdKey part ≡ some t → isUlid t ≡ false → PartApplies tag part 18
+  delete-identifier-breaks-rules : tag ≡ versionDeleteTag → (t : List ℕ) → textUnder byteView deleteIdKey part ≡ some t → isUlid t ≡ false
+      → PartApplies tag part 18
 
 -- 9 to 12, and 22, of a value; 14 to 18, and 22 of the primary part, where none of these applies, so that the value tells t
 pub data Applies (limit tag : ℕ) (s : List ℕ) : ℕ → Type 0 where
@@ -251,7 +252,8 @@ not-read : (n : ℕ) (s : List ℕ) (o : Option Told) (t : Told) → value.fille
 not-read n s (some u) t e = absurd-numbers (cc)
 not-read n s none t e = absurd-numbers (cc)
 
-not-filled : (n : ℕ) (s : List ℕ) (repeated : Bool) (t u : Told) → (n + t .secondary .len ≡ length s → ⊥) → value.filled n s (tested repeated (some t)) ≡ result u → ⊥
+not-filled : (n : ℕ) (s : List ℕ) (repeated : Bool) (t u : Told) → (n + t .secondary .len ≡ length s → ⊥)
+    → value.filled n s (tested repeated (some t)) ≡ result u → ⊥
 not-filled n s true t u d e = absurd-numbers (cc)
 not-filled n s false t u d e = let f = rw (ne-eqb _ _ d) at e in absurd-numbers (cc)
 
@@ -261,7 +263,8 @@ none-applies limit tag s r looked a (no-whole-item p) = let f = rw p at (a .valu
 none-applies limit tag s r looked a (depth-17 p) = let f = rw p at (a .value-tells) in absurd-numbers (cc)
 none-applies limit tag s r looked a (header-not-described n p h) = let f = rw (p, h) at (a .value-tells) in absurd-numbers (cc)
 none-applies limit tag s r looked a (header-key-repeats n p h) = not-read n s (header limit (take n s)) (r .told) (rw (p, h) at (a .value-tells))
-none-applies limit tag s r looked a (value-not-filled n t p h d) = not-filled n s (headerRepeats byteView (take n s)) t (r .told) d (rw (p, h) at (a .value-tells))
+none-applies limit tag s r looked a (value-not-filled n t p h d) =
+    not-filled n s (headerRepeats byteView (take n s)) t (r .told) d (rw (p, h) at (a .value-tells))
 none-applies limit tag s r looked a (version-not-0 t w d) = d (ap (λ (u : Told). u .version) (same-told w (a .value-tells)) ∙ a .version)
 none-applies limit tag s r looked a (encrypted t w d) = let same = same-told w (a .value-tells) in absurd-numbers (cc)
 none-applies limit tag s r looked a (compressed t w d) = d (ap (λ (u : Told). u .primary .compression) (same-told w (a .value-tells)) ∙ a .not-compressed)

@@ -1,8 +1,9 @@
 mod Places
-mod Roles
-mod Visits
 mod Comparisons
 mod Candidates
 mod Passes
+mod Stores
+mod Deletions
+mod Turns
 mod Searches
 mod Refusals

@@ -1,25 +1,26 @@
 -- What the answers of the code say: document 01's numbers, and the contents at the places told.
-use Prim.Native.Nat.{ℕ, _+_, _≤_, _<_}
-use mathlib.Core.Bool.{Bool, cond}
-use mathlib.Core.List.{List, _∷_}
+use Prim.Native.Nat.{ℕ, _+_, _≤_}
+use mathlib.Core.Bool.{Bool, true, false, not, _&&_}
+use mathlib.Core.List.{List}
 use mathlib.Core.Option.{Option, none, some}
 use mathlib.Core.Path.{_≡_}
-use lib.Dec.{eqb}
-use lib.ListN.{length, take, drop}
+use lib.ListN.{length}
+use Rattle.slices.specs.declared.Place.{Place}
 use Rattle.refusals.specs.Limit.{packLimit}
 use Rattle.tlv.specs.Found as tlv
 use Rattle.pack.specs.Reading.{Ending, whole, refused}
-use Rattle.primary.specs.Answers.{textsIn, AllInside}
-use Rattle.primary.specs.declared.Texts.{Texts}
+use Rattle.identifier.specs.Identity.{Identity, identity}
+use Rattle.primary.specs.Answers.{textsIn}
 use Rattle.records.specs.Answers as records
-use Rattle.records.specs.declared.Kind as records-kind
-use Rattle.records.specs.declared.Kind.the-variants as kind-answer
-use Rattle.current_version.specs.Current.{Role, version, deletion, other, unreadable, role, Placed, placedBy, Version, Answer, nothing, found, refusedAt, alone, readability}
-use Rattle.lookup.specs.Walk.{placedFrom, Checked}
-use Rattle.lookup.specs.Search.{greatestBelow, firstBound}
-use Rattle.lookup.specs.declared.Role as declared-role
-use Rattle.lookup.specs.declared.Role.the-variants as role-answer
-use Rattle.lookup.specs.declared.Visited.{Visited}
+use Rattle.records.specs.Answers.{IsValue}
+use Rattle.current_version.specs.Current.{Placed, Version, Answer, nothing, found, refusedAt, alone, readability, best, deletes, isDeleted}
+use Rattle.lookup_records.specs.Answers.{roleIn, valueIn, VersionTold}
+use Rattle.lookup_records.specs.Walk.{placedFrom}
+use Rattle.lookup_records.specs.declared.Role.{Role}
+use Rattle.lookup_records.specs.declared.Role.the-variants as role-answer
+use Rattle.lookup_records.specs.declared.Visited.{Visited}
+use Rattle.lookup.specs.Search.{isBelow, greatestBelow, firstBound, isAnyDeleted, Between}
+use Rattle.lookup.specs.Hints.{ulidAt, isShown, AllFirst}
 use Rattle.lookup.specs.declared.Version as declared-version
 use Rattle.lookup.specs.declared.Candidate.{Candidate}
 use Rattle.lookup.specs.declared.Candidate.the-variants as candidate-answer
@@ -27,42 +28,25 @@ use Rattle.lookup.specs.declared.Readable.{Readable}
 use Rattle.lookup.specs.declared.Readable.the-variants as readable-answer
 use Rattle.lookup.specs.declared.Surveyed.{Surveyed}
 use Rattle.lookup.specs.declared.Surveyed.the-variants as surveyed-answer
+use Rattle.lookup.specs.declared.Hint.{Hint}
+use Rattle.lookup.specs.declared.Hint.the-variants as hint-answer
+use Rattle.lookup.specs.declared.Noted.{Noted}
+use Rattle.lookup.specs.declared.Turn.{Turn}
+use Rattle.lookup.specs.declared.Turn.the-variants as turn-answer
 use Rattle.lookup.specs.declared.Found.{Found}
 use Rattle.lookup.specs.declared.Found.the-variants as found-answer
 
--- ---- what a record is
-
--- with this identifier, by its kind
-abbrev pub roleFor : Texts → records-kind.Kind → declared-role.Role
-roleFor t kind-answer.Block = role-answer.Other
-roleFor t (kind-answer.Version deleted) = role-answer.Version t deleted
-roleFor t (kind-answer.VersionDelete id) = role-answer.Deletion t
-
--- if those of one tag are not read
-unfoldable pub roleBut : ℕ → ℕ → ℕ → List ℕ → Role
-roleBut limit skipped tag value = cond (eqb tag skipped) other (role limit tag value)
-
 -- ---- contents at places of the pack
 
-abbrev pub roleIn : List ℕ → declared-role.Role → Role
-roleIn s (role-answer.Version t deleted) = version (textsIn s t) deleted
-roleIn s (role-answer.Deletion t) = deletion (textsIn s t)
-roleIn s role-answer.Other = other
-roleIn s (role-answer.Unreadable f) = unreadable (records.numberOf f)
-
 -- why a record cannot be read, if it cannot
-abbrev pub faultAt : ℕ → declared-role.Role → Ending
-faultAt at (role-answer.Version t deleted) = whole
+abbrev pub faultAt : ℕ → Role → Ending
+faultAt at (role-answer.Version primary t deleted) = whole
 faultAt at (role-answer.Deletion t) = whole
 faultAt at role-answer.Other = whole
 faultAt at (role-answer.Unreadable f) = refused (records.numberOf f) at
 
--- the value of a record at a place
-abbrev pub valueIn : List ℕ → ℕ → ℕ → List ℕ
-valueIn s at n = take n (drop 32 (drop at s))
-
 abbrev pub placedIn : List ℕ → ℕ → Visited → Placed
-placedIn s at v = record { start = at; role = roleIn s (v .role); value = valueIn s at (v .len) }
+placedIn s at v = record { start = at; role = roleIn s (v .role); value = valueIn s at (v .value .len) }
 
 abbrev pub versionIn : List ℕ → declared-version.Version → Version
 versionIn s v = record { identifier = textsIn s (v .identifier); deleteFlag = v .deleted; value = valueIn s (v .start) (v .len); start = v .start }
@@ -87,13 +71,13 @@ foundOf s (found-answer.Unreadable f at) = refusedAt (records.numberOf f) at
 
 -- ---- the places told lie inside the pack
 
-pub record RoleInside (s : List ℕ) (r : declared-role.Role) : Type 0 where
-  pub version : (t : Texts) (deleted : Bool) → r ≡ role-answer.Version t deleted → AllInside s t
-  pub deletion : (t : Texts) → r ≡ role-answer.Deletion t → AllInside s t
+-- the value of a version follows the header of its record
+abbrev pub placeOfValue : declared-version.Version → Place
+placeOfValue v = record { start = v .start + 32; len = v .len }
 
 pub record VersionInside (s : List ℕ) (v : declared-version.Version) : Type 0 where
-  pub identifier : AllInside s (v .identifier)
-  pub value : v .start + 32 + v .len ≤ length s
+  pub value : IsValue s (v .start) (placeOfValue v)
+  pub told : VersionTold s (placeOfValue v) (v .primary) (v .identifier)
 
 pub record CandidateInside (s : List ℕ) (c : Candidate) : Type 0 where
   pub version : (v : declared-version.Version) → c ≡ candidate-answer.Version v → VersionInside s v
@@ -101,29 +85,65 @@ pub record CandidateInside (s : List ℕ) (c : Candidate) : Type 0 where
 pub record FoundInside (s : List ℕ) (r : Found) : Type 0 where
   pub version : (v : declared-version.Version) → r ≡ found-answer.Current v → VersionInside s v
 
--- ---- a record of a checked pack: what it is, and where the next one stands
-
-pub record Visits (limit skipped : ℕ) (s : List ℕ) (at : ℕ) (v : Visited) : Type 0 where
-  pub tag : ℕ
-  pub first : placedFrom limit s at ≡ placedBy limit at tag (valueIn s at (v .len)) ∷ placedFrom limit s (v .next)
-  pub seen : roleIn s (v .role) ≡ roleBut limit skipped tag (valueIn s at (v .len))
-  pub checked : Checked s (v .next)
-  pub forward : at < v .next
-  pub inside : v .next ≤ length s
-  pub texts : RoleInside s (v .role)
-  pub value : at + 32 + v .len ≡ v .next
-
 -- ---- all records of a checked pack
 
--- of the versions of this name, deleted or not, the greatest
-pub record IsGreatest (s bucket object : List ℕ) (c : Candidate) : Type 0 where
+-- of the versions of this name, deleted or not, the greatest; and whether a deletion has the name
+pub record IsGreatest (s bucket object : List ℕ) (c : Candidate) (deletions : Bool) : Type 0 where
   pub is : candidateIn s c ≡ greatestBelow (placedFrom packLimit s 0) bucket object firstBound
   pub inside : CandidateInside s c
+  pub deletions-is : deletions ≡ isAnyDeleted (placedFrom packLimit s 0) bucket object
 
 abbrev pub surveyEnding : Surveyed → Ending
 surveyEnding (surveyed-answer.Unreadable f at) = refused (records.numberOf f) at
-surveyEnding (surveyed-answer.Greatest c) = whole
+surveyEnding (surveyed-answer.Greatest c deletions) = whole
 
 pub record Surveys (s bucket object : List ℕ) (r : Surveyed) : Type 0 where
   pub ending : surveyEnding r ≡ readability (placedFrom packLimit s 0)
-  pub greatest : (c : Candidate) → r ≡ surveyed-answer.Greatest c → IsGreatest s bucket object c
+  pub greatest : (c : Candidate) (deletions : Bool) → r ≡ surveyed-answer.Greatest c deletions → IsGreatest s bucket object c deletions
+
+-- ---- hints: places of ULIDs of deletions of the name
+
+-- whether a version of the name with the ULID at a place is deleted
+unfoldable pub isDeletedAt : List ℕ → List ℕ → List ℕ → ℕ → Bool
+isDeletedAt s bucket object place = isDeleted (placedFrom packLimit s 0) (identity (ulidAt s place) bucket object)
+
+-- the hint that a record gives
+pub record IsHint (s bucket object : List ℕ) (r : Role) (h : Hint) : Type 0 where
+  pub told : (place : ℕ) → h ≡ hint-answer.At place → deletes (identity (ulidAt s place) bucket object) (roleIn s r) ≡ true
+
+-- one taken in, if there is one
+pub record TakenIn (h : Hint) (n : ℕ) (old : List ℕ) (r : ℕ) (new : List ℕ) : Type 0 where
+  pub within : r ≤ length new
+  pub long : length new ≡ length old
+  pub keeps : (p : ℕ → Bool) → ((place : ℕ) → h ≡ hint-answer.At place → p place ≡ true) → AllFirst p old n → AllFirst p new r
+
+-- all deletions: whether one is of the bound, and hints, each of which is true
+pub record Notes (s bucket object bound : List ℕ) (r : Noted) (hints : List ℕ) : Type 0 where
+  pub named : r .named ≡ isDeleted (placedFrom packLimit s 0) (identity bound bucket object)
+  pub within : r .count ≤ length hints
+  pub sound : AllFirst (isDeletedAt s bucket object) hints (r .count)
+
+-- no hint shows that it is deleted
+unfoldable pub isUnshown : List ℕ → List ℕ → ℕ → Identity → Bool
+isUnshown s hints n i = not (isShown s (i .ulid) hints n)
+
+unfoldable pub isUnshownBelow : List ℕ → List ℕ → List ℕ → List ℕ → List ℕ → ℕ → Identity → Bool
+isUnshownBelow s bucket object bound hints n i = isBelow bucket object bound i && isUnshown s hints n i
+
+-- ---- a turn of the search
+
+-- the next to look at: the best under some test that what is live and below the bound passes, and only what is below it
+pub record IsNext (s bucket object bound : List ℕ) (c : Candidate) : Type 0 where
+  pub test : Identity → Bool
+  pub between : Between (placedFrom packLimit s 0) bucket object bound test
+  pub is : candidateIn s c ≡ best test (placedFrom packLimit s 0)
+  pub inside : CandidateInside s c
+
+-- whether the version is deleted, and then the next one
+abbrev pub isGone : Turn → Bool
+isGone turn-answer.Live = false
+isGone (turn-answer.Below c) = true
+
+pub record Turns (s bucket object ulid : List ℕ) (r : Turn) : Type 0 where
+  pub gone : isGone r ≡ isDeleted (placedFrom packLimit s 0) (identity ulid bucket object)
+  pub next : (c : Candidate) → r ≡ turn-answer.Below c → IsNext s bucket object ulid c

@@ -1,3 +1,3 @@
-pub mod Walk
 pub mod Search
+pub mod Hints
 pub mod Answers

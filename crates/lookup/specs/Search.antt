@@ -1,4 +1,5 @@
--- How code without memory finds the current version: the greatest ULID of the name below a bound, again and again, until one is not deleted.
+-- How the current version is found: the greatest ULID of the name below a bound, or the greatest of those that may still be live, again and again, until
+-- one is not deleted.
 use Prim.Native.Nat.{ℕ, _+_, _≤_, _<_}
 use mathlib.Core.Bool.{Bool, true, false, cond, not, _&&_, _||_, true≢false, and-true, and-false}
 use mathlib.Core.List.{List, [], _∷_, List·Memᴰ, List·Memᴰ·not-nil, List·Memᴰ·cases-cons, Memᴰ·of-map}
@@ -9,18 +10,19 @@ use native.Mathlib.Omega.{arith}
 use borrow.Author.Tests.{lt-ltb, ltb-true, eqb-true, ne-eqb, not-true}
 use lib.Dec.{eqb, ltb}
 use lib.ListN.{drop}
-use Rattle.slices.specs.Logic.{either, clash, not-so, both}
+use Rattle.slices.specs.Bytes.{sameBytes}
+use Rattle.slices.specs.Logic.{either, clash, not-so, both, neither-so}
 use Rattle.pack.specs.Reading.{records}
 use Rattle.identifier.specs.Texts.{member, all, less}
 use Rattle.identifier.specs.Order.{less-irreflexive, less-transitive}
 use Rattle.identifier.specs.Ulid.{alphabet, isCharacter, isUlid, ulid-written}
-use Rattle.identifier.specs.Identity.{Identity, isBucket, isObject, isValid}
+use Rattle.identifier.specs.Identity.{Identity, identity, sameIdentity, isBucket, isObject, isValid}
 use Rattle.identifier.specs.Held.{hasName}
-use Rattle.current_version.specs.Current.{Placed, valueOf, placed, Version, versionOf, filtered, best, isDeleted, isLive, current}
+use Rattle.current_version.specs.Current.{Role, version, deletion, other, unreadable, Placed, valueOf, placed, Version, versionOf, filtered, best, deletes, isDeleted, isLive, current}
 use Rattle.current_version.specs.Roles.{version-told, version-role}
 use Rattle.current_version.specs.Best.{ulidOf, Passes, Best, best-member, best-greatest, best-same, best-none, best-found, found-best, none-best}
 use Rattle.current_version.specs.Exactly.{same-name, has-name}
-use Rattle.lookup.specs.Walk.{placedFrom}
+use Rattle.lookup_records.specs.Walk.{placedFrom}
 
 -- below a bound: of the versions of this name, deleted or not, the best; and the current one
 unfoldable pub isBelow : List ℕ → List ℕ → List ℕ → Identity → Bool
@@ -121,11 +123,48 @@ module _ (test wider : Identity → Bool) (narrower : (i : Identity) → test i 
           let is : versionOf q ≡ some v = ap versionOf (sym h) ∙ o .is in
           rw (is, e, o .test-passed) (omega (arith, no-more ps))
 
+-- ---- deletions of the name
+
+unfoldable pub deletesName : List ℕ → List ℕ → Role → Bool
+deletesName bucket object (version i deleteFlag) = false
+deletesName bucket object (deletion i) = hasName (some i) bucket object
+deletesName bucket object other = false
+deletesName bucket object (unreadable n) = false
+
+unfoldable pub isAnyDeleted : List Placed → List ℕ → List ℕ → Bool
+isAnyDeleted [] bucket object = false
+isAnyDeleted (p ∷ ps) bucket object = deletesName bucket object (p .role) || isAnyDeleted ps bucket object
+
+names-none : (r : Role) (ulid bucket object : List ℕ) → deletesName bucket object r ≡ false → deletes (identity ulid bucket object) r ≡ false
+unfolding deletesName deletes sameIdentity hasName
+names-none (version i deleteFlag) ulid bucket object e = refl
+names-none (deletion i) ulid bucket object e = after (sameBytes (i .ulid) ulid) (sameBytes (i .bucket) bucket) (sameBytes (i .object) object) e
+  where
+    after : (a b c : Bool) → (b && c) ≡ false → ((a && b) && c) ≡ false
+    after true b c f = f
+    after false b c f = refl
+names-none other ulid bucket object e = refl
+names-none (unreadable n) ulid bucket object e = refl
+
+-- where there is none, no version of the name is deleted
+pub none-deleted : (ps : List Placed) (bucket object : List ℕ) → isAnyDeleted ps bucket object ≡ false
+    → (ulid : List ℕ) → isDeleted ps (identity ulid bucket object) ≡ false
+unfolding isAnyDeleted isDeleted
+none-deleted [] bucket object e ulid = refl
+none-deleted (p ∷ ps) bucket object e ulid =
+    let n = neither-so (deletesName bucket object (p .role)) (isAnyDeleted ps bucket object) e in
+    rw (names-none (p .role) ulid bucket object (n .0), none-deleted ps bucket object (n .1) ulid)
+
 -- ---- a step of the search
 
 same-test : (a b : Bool) → (a ≡ true → b ≡ true) → (b ≡ true → a ≡ true) → a ≡ b
 same-test true b f g = sym (f refl)
 same-test false b f g = sym (not-so b (λ e. true≢false (sym (g e))))
+
+-- a test between: what is live and below the bound passes it, and what passes is below the bound
+pub record Between (ps : List Placed) (bucket object bound : List ℕ) (test : Identity → Bool) : Type 0 where
+  pub wider : (i : Identity) → isLiveBelow ps bucket object bound i ≡ true → test i ≡ true
+  pub narrower : (i : Identity) → test i ≡ true → isBelow bucket object bound i ≡ true
 
 module _ (ps : List Placed) (bucket object bound : List ℕ) where
   abbrev below : Identity → Bool
@@ -134,7 +173,7 @@ module _ (ps : List Placed) (bucket object bound : List ℕ) where
   abbrev liveBelow : List ℕ → Identity → Bool
   liveBelow = isLiveBelow ps bucket object
 
-  live-below : (i : Identity) → liveBelow bound i ≡ true → below i ≡ true
+  pub live-below : (i : Identity) → liveBelow bound i ≡ true → below i ≡ true
   unfolding isLiveBelow isLive isBelow
   live-below i e = go (hasName (some i) bucket object) (isDeleted ps i) e
     where
@@ -143,82 +182,90 @@ module _ (ps : List Placed) (bucket object bound : List ℕ) where
       go true false h = h
       go false b h = h
 
-  live-kept : (b : List ℕ) (i : Identity) → liveBelow b i ≡ true → isDeleted ps i ≡ false
+  pub live-kept : (b : List ℕ) (i : Identity) → liveBelow b i ≡ true → isDeleted ps i ≡ false
   unfolding isLiveBelow isLive
   live-kept b i e =
       let h = both (isLive ps bucket object i) (less (i .ulid) b) e in
       not-true (isDeleted ps i) (both (hasName (some i) bucket object) (not (isDeleted ps i)) (h .0) .1)
 
-  below-name : (i : Identity) → below i ≡ true → (i .bucket ≡ bucket) × (i .object ≡ object)
+  pub below-name : (i : Identity) → below i ≡ true → (i .bucket ≡ bucket) × (i .object ≡ object)
   unfolding isBelow
   below-name i e = has-name bucket object i (both (hasName (some i) bucket object) (less (i .ulid) bound) e .0)
-
-  pub search-nothing : greatestBelow ps bucket object bound ≡ none → currentBelow ps bucket object bound ≡ none
-  unfolding greatestBelow currentBelow
-  search-nothing e = none-best (liveBelow bound) ps
-      (λ p v m o. best-none below ps e p v m (record { is = o .is; test-passed = live-below (v .identifier) (o .test-passed) }))
 
   below-live : (i : Identity) → below i ≡ true → isDeleted ps i ≡ false → liveBelow bound i ≡ true
   unfolding isLiveBelow isLive isBelow
   below-live i e kept = let h = both (hasName (some i) bucket object) (less (i .ulid) bound) e in rw (h .0, h .1, kept)
 
-  module _ (c : Version) (found : greatestBelow ps bucket object bound ≡ some c) where
-    greatest : Best below ps c
-    unfolding greatestBelow
-    greatest = best-found below ps c found
+  -- all that are below the bound
+  pub between-below : Between ps bucket object bound below
+  between-below = record { wider = live-below; narrower = λ i e. e }
 
-    -- what is found is current, where no `vd` names it
-    pub search-found : isDeleted ps (c .identifier) ≡ false → currentBelow ps bucket object bound ≡ some c
+  module _ (test : Identity → Bool) (between : Between ps bucket object bound test) where
+    pub search-nothing : best test ps ≡ none → currentBelow ps bucket object bound ≡ none
     unfolding currentBelow
-    search-found kept =
-        found-best (liveBelow bound)
-        (record {
-          front = greatest .front;
-          at = greatest .at;
-          back = greatest .back;
-          cut = greatest .cut;
-          offers = record { is = greatest .offers .is; test-passed = below-live (c .identifier) (greatest .offers .test-passed) kept };
-          earlier = λ p w m o. greatest .earlier p w m (wider p w o);
-          later = λ p w m o. greatest .later p w m (wider p w o);
-        })
-      where
-        wider : (p : Placed) (w : Version) → Passes (liveBelow bound) (versionOf p) w → Passes below (versionOf p) w
-        wider p w o = record { is = o .is; test-passed = live-below (w .identifier) (o .test-passed) }
+    search-nothing e = none-best (liveBelow bound) ps
+        (λ p v m o. best-none test ps e p v m (record { is = o .is; test-passed = between .wider (v .identifier) (o .test-passed) }))
 
-    -- where one does, the current version is below it
-    pub search-deleted : isDeleted ps (c .identifier) ≡ true → currentBelow ps bucket object bound ≡ currentBelow ps bucket object (ulidOf c)
-    unfolding currentBelow isLiveBelow isBelow
-    search-deleted gone = best-same (liveBelow bound) (liveBelow (ulidOf c)) ps
-        (λ p v m e. same-test (liveBelow bound (v .identifier)) (liveBelow (ulidOf c) (v .identifier)) (down p v m e) (up v))
-      where
-        down : (p : Placed) (v : Version) → List·Memᴰ p ps → versionOf p ≡ some v → liveBelow bound (v .identifier) ≡ true
-            → liveBelow (ulidOf c) (v .identifier) ≡ true
-        down p v m e l =
-            let b = live-below (v .identifier) l in
-            let least = best-greatest below greatest p v m (record { is = e; test-passed = b }) in
-            let n = below-name (v .identifier) b in
-            let k = below-name (c .identifier) (greatest .offers .test-passed) in
-            ⊎-elim (λ t. rw (both (isLive ps bucket object (v .identifier)) (less (ulidOf v) bound) l .0) t)
-            (λ t.
-            let same : v .identifier ≡ c .identifier = same-name (v .identifier) (c .identifier) (n .0 ∙ sym (k .0)) (n .1 ∙ sym (k .1)) t least in
-            clash (ap (isDeleted ps) same ∙ gone) (live-kept bound (v .identifier) l))
-            (either (less (ulidOf v) (ulidOf c)))
+    module _ (c : Version) (found : best test ps ≡ some c) where
+      greatest : Best test ps c
+      greatest = best-found test ps c found
 
-        up : (v : Version) → liveBelow (ulidOf c) (v .identifier) ≡ true → liveBelow bound (v .identifier) ≡ true
-        up v l =
-            let h = both (isLive ps bucket object (v .identifier)) (less (ulidOf v) (ulidOf c)) l in
-            let k = both (hasName (some (c .identifier)) bucket object) (less (ulidOf c) bound) (greatest .offers .test-passed) in
-            rw (h .0, less-transitive (ulidOf v) (ulidOf c) bound (h .1) (k .1))
+      c-below : below (c .identifier) ≡ true
+      c-below = between .narrower (c .identifier) (greatest .offers .test-passed)
 
-    -- and fewer versions are below it
-    pub search-falls : versionsBelow ps bucket object (ulidOf c) < versionsBelow ps bucket object bound
-    unfolding versionsBelow isBelow
-    search-falls =
-        fewer (isBelow bucket object (ulidOf c)) below narrower ps (greatest .at) c (best-member below greatest) (greatest .offers)
-        (rw (less-irreflexive (ulidOf c)) (and-false (hasName (some (c .identifier)) bucket object)))
-      where
-        narrower : (i : Identity) → isBelow bucket object (ulidOf c) i ≡ true → below i ≡ true
-        narrower i e =
-            let h = both (hasName (some i) bucket object) (less (i .ulid) (ulidOf c)) e in
-            let k = both (hasName (some (c .identifier)) bucket object) (less (ulidOf c) bound) (greatest .offers .test-passed) in
-            rw (h .0, less-transitive (i .ulid) (ulidOf c) bound (h .1) (k .1))
+      -- what is found is current, where no `vd` names it
+      pub search-found : isDeleted ps (c .identifier) ≡ false → currentBelow ps bucket object bound ≡ some c
+      unfolding currentBelow
+      search-found kept =
+          found-best (liveBelow bound)
+          (record {
+            front = greatest .front;
+            at = greatest .at;
+            back = greatest .back;
+            cut = greatest .cut;
+            offers = record { is = greatest .offers .is; test-passed = below-live (c .identifier) c-below kept };
+            earlier = λ p w m o. greatest .earlier p w m (passes p w o);
+            later = λ p w m o. greatest .later p w m (passes p w o);
+          })
+        where
+          passes : (p : Placed) (w : Version) → Passes (liveBelow bound) (versionOf p) w → Passes test (versionOf p) w
+          passes p w o = record { is = o .is; test-passed = between .wider (w .identifier) (o .test-passed) }
+
+      -- where one does, the current version is below it
+      pub search-deleted : isDeleted ps (c .identifier) ≡ true → currentBelow ps bucket object bound ≡ currentBelow ps bucket object (ulidOf c)
+      unfolding currentBelow isLiveBelow isBelow
+      search-deleted gone = best-same (liveBelow bound) (liveBelow (ulidOf c)) ps
+          (λ p v m e. same-test (liveBelow bound (v .identifier)) (liveBelow (ulidOf c) (v .identifier)) (down p v m e) (up v))
+        where
+          down : (p : Placed) (v : Version) → List·Memᴰ p ps → versionOf p ≡ some v → liveBelow bound (v .identifier) ≡ true
+              → liveBelow (ulidOf c) (v .identifier) ≡ true
+          down p v m e l =
+              let b = live-below (v .identifier) l in
+              let least = best-greatest test greatest p v m (record { is = e; test-passed = between .wider (v .identifier) l }) in
+              let n = below-name (v .identifier) b in
+              let k = below-name (c .identifier) c-below in
+              ⊎-elim (λ t. rw (both (isLive ps bucket object (v .identifier)) (less (ulidOf v) bound) l .0) t)
+              (λ t.
+              let same : v .identifier ≡ c .identifier = same-name (v .identifier) (c .identifier) (n .0 ∙ sym (k .0)) (n .1 ∙ sym (k .1)) t least in
+              clash (ap (isDeleted ps) same ∙ gone) (live-kept bound (v .identifier) l))
+              (either (less (ulidOf v) (ulidOf c)))
+
+          up : (v : Version) → liveBelow (ulidOf c) (v .identifier) ≡ true → liveBelow bound (v .identifier) ≡ true
+          up v l =
+              let h = both (isLive ps bucket object (v .identifier)) (less (ulidOf v) (ulidOf c)) l in
+              let k = both (hasName (some (c .identifier)) bucket object) (less (ulidOf c) bound) c-below in
+              rw (h .0, less-transitive (ulidOf v) (ulidOf c) bound (h .1) (k .1))
+
+      -- and fewer versions are below it
+      pub search-falls : versionsBelow ps bucket object (ulidOf c) < versionsBelow ps bucket object bound
+      unfolding versionsBelow isBelow
+      search-falls =
+          fewer (isBelow bucket object (ulidOf c)) below smaller ps (greatest .at) c (best-member test greatest)
+          (record { is = greatest .offers .is; test-passed = c-below })
+          (rw (less-irreflexive (ulidOf c)) (and-false (hasName (some (c .identifier)) bucket object)))
+        where
+          smaller : (i : Identity) → isBelow bucket object (ulidOf c) i ≡ true → below i ≡ true
+          smaller i e =
+              let h = both (hasName (some i) bucket object) (less (i .ulid) (ulidOf c)) e in
+              let k = both (hasName (some (c .identifier)) bucket object) (less (ulidOf c) bound) c-below in
+              rw (h .0, less-transitive (i .ulid) (ulidOf c) bound (h .1) (k .1))

@@ -77,7 +77,8 @@ unfolding textAt contentAt isWhole timesOf
 text-times key s t e = by (eqb (headOf s .kind) textKind) refl e
   where
     count : (p : Passage) → (eqb (headOf s .kind) mapKind ≡ false)
-        → (ifCounted p λ n. cond (eqb (headOf s .kind) mapKind) (timesWhere (passItem depthAllowed) (keyAt key) (headOf s .count) (drop (headOf s .size) s)) 0) ≡ 0
+        → (ifCounted p λ n. cond (eqb (headOf s .kind) mapKind)
+        (timesWhere (passItem depthAllowed) (keyAt key) (headOf s .count) (drop (headOf s .size) s)) 0) ≡ 0
     count (whole n) m = rw m
     count cut m = refl
     count tooDeep m = refl

@@ -140,7 +140,8 @@ pairs-counted a key (next-pair {e = e} {f = f} {g = g} x z xs) d rest =
       pairs-counted a key xs (omega arith) rest,
     )
 
-pub times-read : (key : List ℕ) {v : Value} {e : List ℕ} → Encodes v e → depth v ≤ depthAllowed → (rest : List ℕ) → timesOf key (e ++ rest) ≡ timesIn key (asMap v)
+pub times-read : (key : List ℕ) {v : Value} {e : List ℕ} → Encodes v e → depth v ≤ depthAllowed → (rest : List ℕ)
+    → timesOf key (e ++ rest) ≡ timesIn key (asMap v)
 unfolding timesOf
 times-read key (scalar {e = e} x) d rest =
     let f = flat-front (scalar-flat x) rest in

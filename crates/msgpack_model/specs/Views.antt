@@ -89,13 +89,15 @@ each-item none d s rest h = no-more
 each-item (next {v = v} {e = e} {f = f} x xs) d s rest h =
     let joined : s ≡ e ++ (f ++ rest) = h ∙ append-assoc e f rest in
     let flat : depth v ≤ depthAllowed = omega arith in
-    let behind : drop (sizeOf (passItem depthAllowed s)) s ≡ f ++ rest = rw joined (rw (complete x depthAllowed flat (f ++ rest)) (drop-append-seam e (f ++ rest))) in
+    let behind : drop (sizeOf (passItem depthAllowed s)) s ≡ f ++ rest
+    = rw joined (rw (complete x depthAllowed flat (f ++ rest)) (drop-append-seam e (f ++ rest))) in
     and-each (record { front = e; rest = f ++ rest; is = joined; encodes = x; shallow = flat }) (each-item xs (omega arith) _ rest behind)
 
 items-alike : {s : List ℕ} {v : Value} → Shows s v → Both (Each Shows) (byteView .items s) (valueView .items v)
 items-alike {s} {v} x = rw (x .is) (by (asArray v) (array-depth (x .encodes)) (array-reads (x .encodes) (x .rest)))
   where
-    by : {c : Option Counted} (o : Option Values) → ((vs : Values) → o ≡ some vs → depth v ≡ suc (valuesDepth vs)) → ArrayRead (x .front ++ x .rest) (x .rest) c o
+    by : {c : Option Counted} (o : Option Values) → ((vs : Values) → o ≡ some vs → depth v ≡ suc (valuesDepth vs))
+        → ArrayRead (x .front ++ x .rest) (x .rest) c o
         → Both (Each Shows) (itemsBy (x .front ++ x .rest) c) (over listOf o)
     by o inner (is-array {vs = vs} l k ys) = both (each-item ys (omega (arith, inner vs refl, x .shallow)) _ (x .rest) k)
     by o inner no-array = neither

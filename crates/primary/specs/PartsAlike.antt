@@ -57,7 +57,8 @@ module _ {I J : Type 0} (v : View I) (w : View J) (R : I → J → Type 0) (alik
       under both-missing = refl
       under both-broken = refl
 
-      by : (b : Bool) → repeats v blockKeys i ≡ b → (b || identifierRepeats v (v .under identifierKey i)) ≡ (b || identifierRepeats w (w .under identifierKey j))
+      by : (b : Bool) → repeats v blockKeys i ≡ b
+          → (b || identifierRepeats v (v .under identifierKey i)) ≡ (b || identifierRepeats w (w .under identifierKey j))
       by true e = refl
       by false e = under (once-alike v w R alike blockKeys r e .0)
 

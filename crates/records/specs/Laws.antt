@@ -44,7 +44,8 @@ record NoRow (tag : ℕ) (t : Told) : Type 0 where
   not-encrypted : t .primary .encrypted ≡ false
   not-compressed : t .primary .compression ≡ 0
 
-no-row : {A : Type 0} (tag : ℕ) (t : Told) (next : Answer A) (a : A) → unless (lowest (toldRows tag (tellingOf t))) next ≡ result a → NoRow tag t × (next ≡ result a)
+no-row : {A : Type 0} (tag : ℕ) (t : Told) (next : Answer A) (a : A)
+    → unless (lowest (toldRows tag (tellingOf t))) next ≡ result a → NoRow tag t × (next ≡ result a)
 unfolding toldRows lowest
 no-row tag t next a e = tag-test (isKnown tag) refl e
   where

@@ -137,10 +137,10 @@ pub record Computed : Type 0 where
 
 pub computed : Computed
 unfolding readRecord reading passItem passHead headOf numberAt holds formatOf passItems big little formats bytes.header
-    bytes.headerRepeats repeats timesOf timesWhere part.blockRepeats bytes.telling bytes.alone bytes.withList bytes.withMap itemsFrom bytesUnder lastValue lastWhere keyAt sameBytes contentAt isWhole
-    naturalUnder readInteger integerOf isThere countAt lowest toldRows isKnown contents part.block fills
-    shapeUnder shapeAt textAt textsUnder textUnder identityOf isValid isUlid isCharacter alphabet isBucket isObject
-    sized member all bigBytes littleBytes
+    bytes.headerRepeats repeats timesOf timesWhere part.blockRepeats bytes.telling bytes.alone bytes.withList
+    bytes.withMap itemsFrom bytesUnder lastValue lastWhere keyAt sameBytes contentAt isWhole naturalUnder readInteger
+    integerOf isThere countAt lowest toldRows isKnown contents part.block fills shapeUnder shapeAt textAt textsUnder
+    textUnder identityOf isValid isUlid isCharacter alphabet isBucket isObject sized member all bigBytes littleBytes
 computed = record { here = refl; there = refl; twice-integers = refl; nil-first = refl; nil-last = refl }
 
 -- ---- these are encodings

@@ -139,6 +139,7 @@ module _ (limit : ℕ) {v : Value} {e : List ℕ} (x : Encodes v e) (rest : List
   unfolding holds reading
   value-reads = by (leb (depth v) depthAllowed) refl
     where
-      by : (t : Bool) → leb (depth v) depthAllowed ≡ t → answerIn (e ++ rest) (reading limit (e ++ rest)) ≡ cond t (filledBy rest (tested (headerRepeats valueView v) (header limit v))) (refused 10)
+      by : (t : Bool) → leb (depth v) depthAllowed ≡ t
+          → answerIn (e ++ rest) (reading limit (e ++ rest)) ≡ cond t (filledBy rest (tested (headerRepeats valueView v) (header limit v))) (refused 10)
       by true l = whole-reads (leb-true _ _ l)
       by false l = rw (deeper x depthAllowed (leb-false _ _ l) rest)

@@ -64,4 +64,5 @@ module _ {p : Value} {e : List ℕ} (x : Encodes p e) where
 
   pub version-delete-reads : bytes.versionDelete e ≡ versionDelete p
   unfolding bytes.versionDelete versionDelete
-  version-delete-reads = by-shallow x _ _ λ d. version-delete-alike byteView valueView Shows bytes-alike e p (shown x d) (keys-alike versionDeleteKeys (shown x d))
+  version-delete-reads = by-shallow x _ _
+      λ d. version-delete-alike byteView valueView Shows bytes-alike e p (shown x d) (keys-alike versionDeleteKeys (shown x d))

@@ -67,7 +67,8 @@ module _ {v w : Value} (x : Alike v w) (limit : ℕ) where
 -- ---- the primary parts
 
 -- of a depth that is allowed
-shallow : {A : Type 0} {p q : Value} → Alike p q → (a b : Answer A) → AnswersAlike (λ c d. c ≡ d) a b → AnswersAlike (λ c d. c ≡ d) (ifShallow p a) (ifShallow q b)
+shallow : {A : Type 0} {p q : Value} → Alike p q → (a b : Answer A) → AnswersAlike (λ c d. c ≡ d) a b
+    → AnswersAlike (λ c d. c ≡ d) (ifShallow p a) (ifShallow q b)
 shallow {A} {p} {q} x a b s = rw (same-depth x) (by (leb (depth q) depthAllowed))
   where
     by : (t : Bool) → AnswersAlike (λ (c d : A). c ≡ d) (cond t a (refused 16)) (cond t b (refused 16))
@@ -122,6 +123,7 @@ module _ {p q : Value} (x : Alike p q) where
       shallow x _ _
       (rw (← r) (either-way (versionDeleteBy (textsUnder valueView p) (textUnder valueView deleteIdKey p))
       (versionDeleteBy (textsUnder valueView q) (textUnder valueView deleteIdKey q)) (repeats valueView versionDeleteKeys p)
-      (delete-refuses (textsUnder valueView p) (textUnder valueView deleteIdKey p)) (delete-refuses (textsUnder valueView q) (textUnder valueView deleteIdKey q))
+      (delete-refuses (textsUnder valueView p) (textUnder valueView deleteIdKey p))
+      (delete-refuses (textsUnder valueView q) (textUnder valueView deleteIdKey q))
       (λ e. once-version-delete-alike valueView valueView Alike seen-alike p q x e
       ∙ ap (versionDeleteBy (textsUnder valueView q) (textUnder valueView deleteIdKey q)) (sym r))))

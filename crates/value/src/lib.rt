@@ -179,7 +179,8 @@ fn alone(map: &[u8], places: HeaderPlaces) -> Described
 // The same with the secondary part of which the map in `s` tells.
 fn with_map(t: Told, map: &[u8]) -> Reading
     requires { ⌜ WholeItem (now map) ⌝ }
-    ensures { λ r. ⌜ answerOf r ≡ tested (repeats byteView secondaryKeys (now (map .entry))) (toldWith t (withMap byteView packLimit (tellingOf t) (now (map .entry)))) ⌝ }
+    ensures { λ r. ⌜ answerOf r ≡ tested (repeats byteView secondaryKeys (now (map .entry)))
+        (toldWith t (withMap byteView packLimit (tellingOf t) (now (map .entry)))) ⌝ }
 {
     let primary = t.primary;
     let part = t.secondary;
@@ -220,7 +221,8 @@ fn with_map(t: Told, map: &[u8]) -> Reading
 // The same with the list at the front of s, which is of no item or of one map.
 fn with_list(t: Told, s: &[u8]) -> Reading
     requires { ⌜ WholeItem (now s) ⌝ }
-    ensures { λ r. ⌜ answerOf r ≡ tested (itemsRepeat byteView (byteView .items (now (s .entry)))) (toldWith t (withList byteView packLimit (tellingOf t) (now (s .entry)))) ⌝ }
+    ensures { λ r. ⌜ answerOf r ≡ tested (itemsRepeat byteView (byteView .items (now (s .entry))))
+        (toldWith t (withList byteView packLimit (tellingOf t) (now (s .entry)))) ⌝ }
 {
     match msgpack::read_array(s) {
         Items::Counted { count, size } => {

@@ -1,0 +1,4 @@
+mod Roles
+mod Places
+mod Visits
+mod Names
