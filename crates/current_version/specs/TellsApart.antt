@@ -1,4 +1,4 @@
--- The relations that demand 3 is said with tell things apart: what differs in one respect alone is not related.
+-- The relations that demand 3, and the lookups of two sites, are said with tell things apart: what differs in one respect alone is not related.
 use Prim.Native.Nat.{ℕ, suc, _+_}
 use mathlib.Core.Bool.{Bool, true, false, cond}
 use mathlib.Core.List.{List, [], _∷_, map, List·Memᴰ, List·Memᴰ·head, List·Memᴰ·tail, List·Memᴰ·not-nil, List·Memᴰ·cases-cons, Memᴰ·map, Memᴰ·of-map}

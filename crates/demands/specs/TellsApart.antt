@@ -25,13 +25,14 @@ use Rattle.records.specs.declared.AtPlace as declared-place
 use Rattle.records.specs.declared.AtPlace.the-variants as place-answer
 use Rattle.records_model.specs.Record.{recordIn}
 use Rattle.records_model.specs.Alike.{AlikeRecordValues}
-use Rattle.records_model.specs.AnswersAlike.{AnswersAlike, SameRecord}
+use Rattle.records_model.specs.AnswersAlike.{AnswersAlike, NumbersAlike, SameRecord}
 use Rattle.writer.specs.Writing.{Item, tagOf, valueOf, written, bufferAfter}
 use Rattle.writer_laws.specs.Meaning.{heldOf}
 use Rattle.writer_laws.specs.Calls.{all-written, stopped, writeAll, recordFor}
 use Rattle.current_version.specs.Current as current
-use Rattle.current_version.specs.Current.{Answer, refusedAt, isName, lookup}
+use Rattle.current_version.specs.Current.{Version, Answer, refusedAt, isName, lookup}
 use Rattle.current_version.specs.Packs.{ReadablePack, SameAnswer}
+use Rattle.current_version.specs.TellsApart as answers
 use Rattle.current_version.specs.Bytes.{takenOutOf, SameRecordsIn, OneValueIn}
 use Rattle.lookup.specs.Answers.{foundOf, FoundInside}
 use Rattle.lookup.specs.declared.Found.{Found}
@@ -241,6 +242,24 @@ first-answers-are-unlike limit s t d e ds es f (next-entry y ys) = f y
 -- in one pack two places are of two indexes
 pub places-differ : (es : List Entry) (p q : ℕ) → (p ≡ q → ⊥) → SameIndex es es p q → ⊥
 places-differ es p q d x = let e = sym (x .first-start) ∙ x .second-start in d (cc)
+
+module _ (limit : ℕ) (s t : List ℕ) where
+  abbrev AtOneIndex : ℕ → ℕ → Type 0
+  AtOneIndex = SameIndex (reading limit s .entries) (reading limit t .entries)
+
+  module _ (v w : Version) (x : AlikeLookups limit s t (current.found v) (current.found w)) where
+    pub found-with-values-unlike : (AlikeRecordValues (v .value) (w .value) → ⊥) → ⊥
+    found-with-values-unlike d = answers.values-are-unlike NumbersAlike AtOneIndex AlikeRecordValues v w d x
+
+    pub found-at-another-index : (AtOneIndex (v .start) (w .start) → ⊥) → ⊥
+    found-at-another-index d = answers.found-elsewhere NumbersAlike AtOneIndex AlikeRecordValues v w d x
+
+  module _ (n m p q : ℕ) (x : AlikeLookups limit s t (refusedAt n p) (refusedAt m q)) where
+    pub refused-with-another-number : (NumbersAlike n m → ⊥) → ⊥
+    refused-with-another-number d = answers.numbers-are-unlike NumbersAlike AtOneIndex AlikeRecordValues n m p q d x
+
+    pub refused-at-another-index : (AtOneIndex p q → ⊥) → ⊥
+    refused-at-another-index d = answers.refused-elsewhere NumbersAlike AtOneIndex AlikeRecordValues n m p q d x
 
 -- ---- a lookup in two packs
 
