@@ -1,4 +1,4 @@
--- The relations that demand 3 is said with tell things apart: what differs in one respect alone is not related.
+-- The relations that demand 3, and the lookups of two sites, are said with tell things apart: what differs in one respect alone is not related.
 use Prim.Native.Nat.{ℕ, suc, _+_}
 use mathlib.Core.Bool.{Bool, true, false, cond}
 use mathlib.Core.List.{List, [], _∷_, map, List·Memᴰ, List·Memᴰ·head, List·Memᴰ·tail, List·Memᴰ·not-nil, List·Memᴰ·cases-cons, Memᴰ·map, Memᴰ·of-map}
@@ -36,6 +36,7 @@ use Rattle.primary.specs.Parts.{fills, textUnder, textsUnder, deletedUnder}
 use Rattle.records.specs.Record.{versionTag, isKnown, contents, toldRows, readRecord, canBeRead}
 use Rattle.current_version.specs.Current.{version, isLookedAt, role, valueOf, Version, Answer, nothing, found, refusedAt, alone, isName, lookup}
 use Rattle.current_version.specs.Packs.{value-standing, rest-standing, ReadablePack, ofEntry, ofRecord, tags-and-values, pack-of-read, SameAnswer}
+use Rattle.current_version.specs.Alike.{AlikeAnswers, both-nothing, both-found, both-refused, both-alone}
 use Rattle.current_version.specs.Order.{howOften, SameRecords, OneValue}
 use Rattle.current_version.specs.Bytes.{timesIn, SameRecordsIn, OneValueIn, times-standing}
 use Rattle.current_version.specs.Examples.{herd, scan, one, two, plain, another, vr, Row, told, rows, rows-hold}
@@ -65,6 +66,43 @@ refusals-are-no-answers nothing n place = (λ s. s, λ s. s, λ s. s, λ s. s)
 refusals-are-no-answers (found v) n place = (λ s. s, λ s. s, λ s. s, λ s. s)
 refusals-are-no-answers (refusedAt m p) n place = (λ s. s, λ s. s, λ s. s, λ s. s)
 refusals-are-no-answers (alone m) n place = (λ s. s, λ s. s, λ s. s, λ s. s)
+
+-- ---- answers alike: what `same-outline` does not show
+
+abbrev hasPlace : Answer → Bool
+hasPlace nothing = false
+hasPlace (found v) = false
+hasPlace (refusedAt n place) = true
+hasPlace (alone n) = false
+
+module _ (Number Place : ℕ → ℕ → Type 0) (Bytes : List ℕ → List ℕ → Type 0) where
+  abbrev AreAlike : Answer → Answer → Type 0
+  AreAlike = AlikeAnswers Number Place Bytes
+
+  pub values-are-unlike : (v w : Version) → (Bytes (v .value) (w .value) → ⊥) → AreAlike (found v) (found w) → ⊥
+  values-are-unlike v w d (both-found x) = d (x .value)
+
+  pub found-elsewhere : (v w : Version) → (Place (v .start) (w .start) → ⊥) → AreAlike (found v) (found w) → ⊥
+  found-elsewhere v w d (both-found x) = d (x .start)
+
+  pub numbers-alone-differ : (n m : ℕ) → (n ≡ m → ⊥) → AreAlike (alone n) (alone m) → ⊥
+  numbers-alone-differ n m d (both-alone k) = d refl
+
+  same-places : {a b : Answer} → AreAlike a b → hasPlace a ≡ hasPlace b
+  same-places both-nothing = refl
+  same-places (both-found x) = refl
+  same-places (both-refused x y) = refl
+  same-places (both-alone n) = refl
+
+  module _ (n m p q : ℕ) where
+    pub numbers-are-unlike : (Number n m → ⊥) → AreAlike (refusedAt n p) (refusedAt m q) → ⊥
+    numbers-are-unlike d (both-refused x y) = d x
+
+    pub refused-elsewhere : (Place p q → ⊥) → AreAlike (refusedAt n p) (refusedAt m q) → ⊥
+    refused-elsewhere d (both-refused x y) = d y
+
+    pub one-place-only : (AreAlike (refusedAt n p) (alone m) → ⊥) × (AreAlike (alone n) (refusedAt m q) → ⊥)
+    one-place-only = (λ x. let e = same-places x in absurd-numbers (cc), λ x. let e = same-places x in absurd-numbers (cc))
 
 -- ---- packs
 

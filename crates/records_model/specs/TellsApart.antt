@@ -1,10 +1,10 @@
 -- The relations that "two sites read alike" is said with tell things apart: what differs in one respect alone is not related.
 use Prim.Native.Nat.{ℕ, _+_}
 use mathlib.Core.Bool.{Bool, true, false, cond}
-use mathlib.Core.List.{List, [], _∷_}
+use mathlib.Core.List.{List, [], _∷_, _++_}
 use mathlib.Core.Logic.{_⊎_, inl, inr}
 use mathlib.Core.Option.{some, none}
-use mathlib.Core.Path.{_≡_, refl, subst, subst₂}
+use mathlib.Core.Path.{_≡_, refl, sym, subst, subst₂, _∙_}
 use lib.Dec.{ltb}
 use Rattle.slices.specs.Bytes.{sameBytes, same-bytes-refl}
 use Rattle.slices.specs.Logic.{absurd-numbers}
@@ -13,11 +13,12 @@ use Rattle.msgpack.specs.Lookup.{found}
 use Rattle.msgpack.specs.Views.{Both, both, Each, and-each, SameUnder, both-found}
 use Rattle.msgpack_model.specs.Values.{Value, Boolean, Text, Binary, Array, Map, no-values, value, no-pairs, pair}
 use Rattle.msgpack_model.specs.Encoding.{Encodes}
-use Rattle.msgpack_model.specs.Unique.{one-value}
+use Rattle.msgpack_model.specs.Unique.{unique, one-value}
+use Rattle.msgpack_model.specs.Unique as model
 use Rattle.msgpack_model.specs.Views.{foundBy}
 use Rattle.value.specs.Header.{Telling}
 use Rattle.records.specs.Record.{Contents}
-use Rattle.records_model.specs.Alike.{Alike, same, AlikeBytes, same-bytes, encodings, alike-binary, seen-alike}
+use Rattle.records_model.specs.Alike.{Alike, same, AlikeBytes, same-bytes, encodings, AlikeRecordValues, same-value, headers, alike-binary, seen-alike}
 use Rattle.records_model.specs.Record.{RecordHeld}
 use Rattle.records_model.specs.AnswersAlike.{TypeFault, in-header, in-part, AnswersAlike, same-refusal, first-22, second-22, both-read, SameRecord}
 
@@ -59,6 +60,23 @@ embedded-values-differ {e = e} {f = f} x y d z = by (alike-binary z)
   where
     by : Both AlikeBytes (some e) (some f) → ⊥
     by (both b) = encodings-differ x y d b
+
+-- of records: another header, or another secondary part
+module _ {v w : Value} {e f : List ℕ} (x : Encodes v e) (y : Encodes w f) (secondary other : List ℕ) where
+  both-parts : (s t : List ℕ) → s ≡ e ++ secondary → t ≡ f ++ other → AlikeRecordValues s t → Alike v w × (secondary ≡ other)
+  both-parts s t p q (same-value r) =
+      let h : e ++ secondary ≡ f ++ other = sym p ∙ q in
+      (subst (Alike v) (unique x y secondary other h) (same v), model.same-bytes x y secondary other h .rest)
+  both-parts s t p q (headers a b z r) = (
+    subst₂ Alike (unique a x r secondary p) (unique b y r other q) z,
+    sym (model.same-bytes a x r secondary p .rest) ∙ model.same-bytes b y r other q .rest,
+  )
+
+  pub headers-differ : (Alike v w → ⊥) → AlikeRecordValues (e ++ secondary) (f ++ other) → ⊥
+  headers-differ d z = d (both-parts _ _ refl refl z .0)
+
+  pub behind-headers-differ : (secondary ≡ other → ⊥) → AlikeRecordValues (e ++ secondary) (f ++ other) → ⊥
+  behind-headers-differ d z = d (both-parts _ _ refl refl z .1)
 
 -- ---- answers
 
