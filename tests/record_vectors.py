@@ -83,6 +83,29 @@ def told_at(s):
     return "@ %d l %d " % (place + 32, len(value)) + told_record(tag + value)
 
 
+def hashed(letter, s):
+    return "%s %d %016x" % (letter, len(s), xxh64(s))
+
+
+def told_parts(s):
+    """The primary and the secondary part; of a refused value both are empty."""
+    value, refused = outcome(read_value, s)
+    parts = [] if refused else [value.primary, value.secondary]
+    primary, secondary = [s[p.start :][: p.length] for p in parts] or (b"", b"")
+    return hashed("e", primary) + " " + hashed("s", secondary)
+
+
+def told_walk(s):
+    """The number of a call, from 0, in 8 bytes, and a pack: what the walker answers to it."""
+    n, pack, place = int.from_bytes(s[:8], "big"), s[8:], 0
+    while place < len(pack):
+        tag, value = read_tlv(pack, place)
+        if n == 0:
+            return "@ %d t %d l %d" % (place, int.from_bytes(tag, "big"), len(value))
+        n, place = n - 1, place + 32 + len(value)
+    return "end"
+
+
 def told_composite(s):
     """Where the slash is, and the identifier: the answers of two functions."""
     try:
@@ -143,9 +166,11 @@ READERS = {
     "delete": told_delete,
     "record": told_record,
     "at": told_at,
+    "parts": told_parts,
+    "walk": told_walk,
 }
 WRITERS = ["write_block", "write_version", "write_delete", "write_delete_of"]
-vectors = Vectors("record_vectors", [*READERS, *WRITERS])
+vectors = Vectors("record_vectors", [*READERS, "names", *WRITERS])
 
 
 def vector(kind, name, data, wanted=None):
@@ -153,8 +178,8 @@ def vector(kind, name, data, wanted=None):
     found, refused = outcome(READERS[kind], data)
     right = not refused if wanted is None else found == str(wanted)
     assert right, "%s %s: wanted %s, found %s" % (kind, name, wanted or "a reading", found)
-    # The tag, and the place, are numbers of their own.
-    cut = {"record": 2, "at": 8}.get(kind, 0)
+    # The tag, the place and the number of a call are numbers of their own.
+    cut = {"record": 2, "at": 8, "walk": 8}.get(kind, 0)
     more = number(int.from_bytes(data[:cut], "big")) if cut else b""
     found = told_refusal(found) if refused else found
     vectors.add(kind, kind + " " + name, data[cut:], more, found)
@@ -162,6 +187,30 @@ def vector(kind, name, data, wanted=None):
 
 def at(name, place, pack, wanted=None):
     vector("at", name, number(place) + pack, wanted)
+
+
+def parts_of(name, value, primary=b"", secondary=b""):
+    """Of a refused value both parts are empty."""
+    vector("parts", name, value, hashed("e", primary) + " " + hashed("s", secondary))
+
+
+def walk(name, pack, *wanted):
+    """wanted: the answers to the calls from 0 on, the last of them to later calls too."""
+    for n, answer in enumerate([*wanted, wanted[-1], wanted[-1]]):
+        vector("walk", "%s, call %d" % (name, n), number(n) + pack, answer)
+
+
+def names(name, texts, other, same, named):
+    """An identifier of three texts, and another: whether that is the same, and has this name. Both
+    are said by hand; same: None where the texts are no identifier."""
+    texts = [x.encode(errors="surrogateescape") for x in texts]
+    id, refused = outcome(identifier, *texts)
+    right = other.lengths is None
+    assert same == (None if refused else right and other.bytes() == texts), name
+    assert named == (right and other.bytes()[1:] == texts[1:]), name
+    told = told_refusal(id) if refused else told_identifier(id) + " = %d" % same
+    more = field(texts[1]) + field(texts[2]) + other.given()
+    vectors.add("names", "names " + name, texts[0], more, told + " ~ %d" % named)
 
 
 def call(kind, name, made, data, id, wanted=None, used=None, room=BUFFER, pack=b""):
@@ -441,6 +490,38 @@ def values_keys():
     vector("value", "in s unknown keys and keys of other types", pairs(e, ("s", [odd])) + b"a")
 
 
+def lent_parts():
+    """The parts that a value lends; K is document 01's."""
+    k = bytes.fromhex("82A1739181A16C0CA165C410C40E") + b"value 1 headervalue 1 data"
+    parts_of("K", k, b"\xc4\x0evalue 1 header", b"value 1 data")
+    parts_of("L", k[:39])
+    parts_of("M, no e", b"\x80")
+    parts_of("M, empty", b"")
+    parts_of("N, depth 17", lists(17))
+    e, s = {"e": b"pp"}, {"s": [{"l": 3}]}
+    parts_of("header alone", item(e), b"pp")
+    parts_of("s empty", item({**e, "s": []}), b"pp")
+    parts_of("l 0", item({**e, "s": [{"l": 0}]}), b"pp")
+    parts_of("both parts empty", item({"e": b"", "s": [{"l": 0}]}))
+    parts_of("secondary part alone", item({"e": b"", **s}) + b"abc", b"", b"abc")
+    parts_of("e before s", item({**e, **s}) + b"abc", b"pp", b"abc")
+    parts_of("s before e", item({**s, **e}) + b"abc", b"pp", b"abc")
+    parts_of("the same bytes in both", item({"e": b"abc", **s}) + b"abc", b"abc", b"abc")
+    parts_of("the same bytes before e", item({"x": b"pq", "e": b"pq"}), b"pq")
+    parts_of("other bytes behind e", item({**e, "x": b"qq", **s}) + b"abc", b"pp", b"abc")
+    parts_of("compressed and encrypted", item({**e, "c": 1, "z": 1, **s}) + b"abc", b"pp", b"abc")
+    parts_of("v not 0", item({**e, "v": 7}), b"pp")
+    parts_of("a byte missing", item({**e, **s}) + b"ab")
+    parts_of("a byte left over", item({**e, **s}) + b"abcd")
+    parts_of("e is text", item({"e": "pp"}))
+    parts_of("e twice", pairs(("e", b"pp"), ("e", b"pp")))
+    parts_of("cut", item(e)[:-1])
+    for n in (255, 256):
+        parts_of("e of %d bytes" % n, item({"e": b"p" * n, **s}) + b"abc", b"p" * n, b"abc")
+    for n in (127, 128):
+        parts_of("s of %d bytes" % n, item({"s": [{"l": n}], **e}) + b"d" * n, b"pp", b"d" * n)
+
+
 def parts(kind, given):
     """What holds of the primary parts of all kinds. given: the keys of one that is read."""
     whole = item(given)
@@ -622,6 +703,16 @@ def records():
     read("text over the part", BK, item({"e": block, "x": HERD}))
 
 
+# Document 01's cases F to J: a byte of B changed, and the refusal.
+DAMAGE = [
+    ("F", 0, 0x88, 3),
+    ("G", 24, 1, 4),
+    ("H", 27, 7, 5),
+    ("I", 31, 0x15, 6),
+    ("J", 45, 0x62, 8),
+]
+
+
 def places():
     map = {"b": "b", "o": "o", "v": ULID}
     version = record(VR, item({"e": item(map)}))
@@ -636,13 +727,7 @@ def places():
     at("D", 0, b[:31], "2 at 0")
     at("E", 46, b + b"\x00", "2 at 46")
     at("E, at 0", 0, b + b"\x00", 11)
-    for name, i, byte, number in [
-        ("F", 0, 0x88, 3),
-        ("G", 24, 1, 4),
-        ("H", 27, 7, 5),
-        ("I", 31, 0x15, 6),
-        ("J", 45, 0x62, 8),
-    ]:
+    for name, i, byte, number in DAMAGE:
         damaged = b[:i] + bytes([byte]) + b[i + 1 :]
         at(name, 0, damaged, "%d at 0" % number)
         at(name + " behind a version", second, version + damaged, "%d at %d" % (number, second))
@@ -851,7 +936,65 @@ def written_twice():
             write("%s twice, not read" % key, map.made((key, TWICE), *given, (key, 5)))
 
 
+def walks():
+    """The records, then the end or the fault, and that again; B is document 01's."""
+    b = record(b"C!", b"data data data")
+    empty = record(b"vd", b"")
+    first = "@ 0 t 17185 l 14"
+    assert int.from_bytes(b"C!", "big") == 17185 and int.from_bytes(b"vd", "big") == 30308
+    walk("A", b"", "end")
+    walk("B", b, first, "end")
+    walk("C", b[:-1], "7 at 0")
+    walk("D", b[:31], "2 at 0")
+    walk("E", b + b"\x00", first, "2 at 46")
+    for name, i, byte, number in DAMAGE:
+        damaged = b[:i] + bytes([byte]) + b[i + 1 :]
+        walk(name, damaged, "%d at 0" % number)
+        walk(name + " in second place", empty + damaged, "@ 0 t 30308 l 0", "%d at 32" % number)
+    walk("three records", b + empty + b, first, "@ 46 t 30308 l 0", "@ 78 t 17185 l 14", "end")
+    walk("a fault in the middle", b + damaged + b, first, "8 at 46")
+    walk("length of 2^64-1", b + header(b"vr", 2**64 - 1, 0), first, "7 at 46")
+
+
 HELD = Held(ULID, "herd", "k")
+
+
+def compared():
+    """Identifiers of three texts, and held ones beside them."""
+    texts = (ULID, "herd", "k")
+    names("herd", texts, HELD, True, True)
+    names("another ULID", texts, Held(OTHER, "herd", "k"), False, True)
+    names("ULID with another end", texts, Held(ULID[:25] + "2", "herd", "k"), False, True)
+    names("another bucket", texts, Held(ULID, "here", "k"), False, False)
+    names("another object", texts, Held(ULID, "herd", "l"), False, False)
+    names("a longer bucket", texts, Held(ULID, "herds", "k"), False, False)
+    names("a shorter bucket", texts, Held(ULID, "her", "k"), False, False)
+    names("a longer object", texts, Held(ULID, "herd", "k/"), False, False)
+    names("a shorter object", (ULID, "herd", "kk"), HELD, False, False)
+    names("the padding of the other", (ULID, "herd", "k//"), HELD, False, False)
+    names("the slash elsewhere", (ULID, "a", "b/c"), Held(ULID, "a/b", "c"), False, False)
+    names("bucket and object exchanged", (ULID, "k", "herd"), HELD, False, False)
+    names("another case", (ULID, "Herd", "k"), HELD, False, False)
+    longest = (OTHER, "b" * 63, "o" * 1024)
+    names("longest", longest, Held(*longest), True, True)
+    for name, bucket, object in [
+        ("bucket with another end", "b" * 62 + "c", "o" * 1024),
+        ("object with another end", "b" * 63, "o" * 1023 + "p"),
+    ]:
+        names("longest, " + name, longest, Held(OTHER, bucket, object), False, False)
+    odd = (ULID, "\udcff", "\udcfe\0")
+    names("bytes that are no UTF-8", odd, Held(*odd), True, True)
+    names("bucket told too long", texts, Held(ULID, "herd", "k", (64, 1)), False, False)
+    names("object told too long", texts, Held(ULID, "herd", "k", (4, 1025)), False, False)
+    for name, broken, named in [
+        ("bucket of 64", (ULID, "b" * 64, "k"), False),
+        ("object of 1025", (ULID, "herd", "o" * 1025), False),
+        ("bucket of 0", (ULID, "", "k"), False),
+        ("object of 0", (ULID, "herd", ""), False),
+        ("bucket with a slash", (ULID, "he/rd", "k"), False),
+        *[("ULID " + name, (ulid, "herd", "k"), True) for name, ulid in ULIDS[:-1]],
+    ]:
+        names(name, broken, HELD, None, named)
 
 
 def written_blocks():
@@ -1034,6 +1177,7 @@ def main():
         values_parts,
         values_widths,
         values_keys,
+        lent_parts,
         blocks,
         versions,
         deletes,
@@ -1044,6 +1188,8 @@ def main():
         twice_in_two_maps,
         records_with_parts_twice,
         may_repeat,
+        walks,
+        compared,
         written_blocks,
         written_parts,
         written_deletes,

@@ -58,7 +58,7 @@ timesIn bytes s (e ∷ es) = cond (sameBytes bytes (recordBytes s e)) (suc (time
 abbrev pub SameRecordsIn : ℕ → List ℕ → List ℕ → Type 0
 SameRecordsIn limit s t = (bytes : List ℕ) → timesIn bytes s (reading limit s .entries) ≡ timesIn bytes t (reading limit t .entries)
 
-times-standing : (bytes : List ℕ) (at : ℕ) (rs : List Record) (s : List ℕ) → drop at s ≡ layouts rs → timesIn bytes s (entriesOf at rs) ≡ howOften bytes rs
+pub times-standing : (bytes : List ℕ) (at : ℕ) (rs : List Record) (s : List ℕ) → drop at s ≡ layouts rs → timesIn bytes s (entriesOf at rs) ≡ howOften bytes rs
 unfolding timesIn howOften layouts entriesOf
 times-standing bytes at [] s e = refl
 times-standing bytes at (r ∷ rs) s e = rw (bytes-standing at r rs s e, times-standing bytes (at + length (layout r)) rs s (rest-standing at r rs s e))

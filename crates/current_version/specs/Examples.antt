@@ -1,10 +1,9 @@
 -- The lookup on packs written out, as one table; antt computes every answer.
 use Prim.Native.Nat.{ℕ, suc, _+_}
-use mathlib.Core.Bool.{Bool, true, false, cond}
+use mathlib.Core.Bool.{Bool, true, false}
 use mathlib.Core.List.{List, [], _∷_, _++_, map}
-use mathlib.Core.Path.{_≡_, refl, ap}
-use native.Mathlib.Omega.{arith}
-use lib.ListN.{length, getD, replicate}
+use mathlib.Core.Path.{_≡_, refl}
+use lib.ListN.{length, replicate}
 use Rattle.slices.specs.Bytes.{sameBytes}
 use Rattle.refusals.specs.Sheet.{lowest}
 use Rattle.refusals.specs.Limit.{packLimit}
@@ -32,7 +31,6 @@ use Rattle.primary.specs.Parts as primary
 use Rattle.primary.specs.Parts.{fills, textUnder, textsUnder, deletedUnder, ulidOf}
 use Rattle.records.specs.Record.{blockTag, versionTag, versionDeleteTag, isKnown, contents, toldRows, readRecord}
 use Rattle.current_version.specs.Current.{isLookedAt, role, Version, versionOf, filtered, better, best, deletes, isDeleted, isLive, current, Answer, nothing, found, refusedAt, alone, readability, answerIn, isName, lookup}
-use Rattle.current_version.specs.Order.{howOften, SameRecords}
 
 -- ---- records in their shortest forms
 
@@ -43,19 +41,19 @@ text t = (0xa0 + length t) ∷ t
 abbrev pair : List ℕ → List ℕ → List ℕ
 pair key value = text key ++ value
 
-abbrev herd : List ℕ
+abbrev pub herd : List ℕ
 herd = 0x68 ∷ []  -- h
 
 abbrev flock : List ℕ
 flock = 0x66 ∷ []  -- f
 
-abbrev scan : List ℕ
+abbrev pub scan : List ℕ
 scan = 0x73 ∷ []  -- s
 
-abbrev one : ℕ
+abbrev pub one : ℕ
 one = 0x31  -- 1
 
-abbrev two : ℕ
+abbrev pub two : ℕ
 two = 0x32  -- 2
 
 abbrev three : ℕ
@@ -73,20 +71,20 @@ named bucket x = pair (0x62 ∷ []) (text bucket) ++ pair (0x6f ∷ []) (text sc
 abbrev valueOf : ℕ → List ℕ → List ℕ
 valueOf n pairs = 0x81 ∷ 0xa1 ∷ 0x65 ∷ 0xc4 ∷ suc (length pairs) ∷ (0x80 + n) ∷ pairs
 
-abbrev with : ℕ → List ℕ → Record
+abbrev pub with : ℕ → List ℕ → Record
 with tag value = record { spare = 0; tag = tag; value = value }
 
 -- a version of the bucket; with its delete flag `d`; with an unknown key, so that its value is another
-abbrev plain : List ℕ → ℕ → List ℕ
+abbrev pub plain : List ℕ → ℕ → List ℕ
 plain bucket x = valueOf 3 (named bucket x)
 
 abbrev marker : ℕ → List ℕ
 marker x = valueOf 4 (named herd x ++ pair (0x64 ∷ []) (0xc3 ∷ []))
 
-abbrev another : ℕ → List ℕ
+abbrev pub another : ℕ → List ℕ
 another x = valueOf 4 (named herd x ++ pair (0x78 ∷ []) (0xc0 ∷ []))
 
-abbrev vr : List ℕ → Record
+abbrev pub vr : List ℕ → Record
 vr value = with versionTag value
 
 abbrev vd : ℕ → Record
@@ -101,7 +99,7 @@ pub record Row : Type 0 where
   pub answer : Answer
 
 -- what is told of a version of herd/scan
-abbrev told : ℕ → Bool → List ℕ → ℕ → Version
+abbrev pub told : ℕ → Bool → List ℕ → ℕ → Version
 told x deleteFlag value start = record { identifier = identity (ulid x) herd scan; deleteFlag = deleteFlag; value = value; start = start }
 
 abbrev is : ℕ → Bool → List ℕ → ℕ → Answer
@@ -158,43 +156,3 @@ unfolding rows layouts layout head fields bytesOf bigBytes littleBytes little bi
     contents toldRows readRecord isLookedAt role less hasName sameIdentity versionOf filtered better best deletes
     isDeleted isLive current readability answerIn isName lookup
 rows-hold = refl
-
--- ---- ORDER without its premise: the same two records, and two answers
-
-swapped : (a b : Record) → SameRecords (a ∷ b ∷ []) (b ∷ a ∷ [])
-unfolding howOften
-swapped a b bytes = go (sameBytes bytes (layout a)) (sameBytes bytes (layout b))
-  where
-    go : (t u : Bool) → cond t (suc (cond u 1 0)) (cond u 1 0) ≡ cond u (suc (cond t 1 0)) (cond t 1 0)
-    go true true = refl
-    go true false = refl
-    go false true = refl
-    go false false = refl
-
-pub record Differ (rs ts : List Record) (bucket object : List ℕ) : Type 0 where
-  pub same : SameRecords rs ts
-  pub v : Version
-  pub w : Version
-  pub first : lookup packLimit (layouts rs) bucket object ≡ found v
-  pub second : lookup packLimit (layouts ts) bucket object ≡ found w
-  pub values : v .value ≡ w .value → ⊥
-
--- the fifth and the sixth row
-pub one-value-is-needed : (rs ts : List Record) × Differ rs ts herd scan
-unfolding rows
-one-value-is-needed = (
-  vr (plain herd one) ∷ vr (another one) ∷ [],
-  vr (another one) ∷ vr (plain herd one) ∷ [],
-  record {
-    same = swapped (vr (plain herd one)) (vr (another one));
-    v = told one false (plain herd one) 0;
-    w = told one false (another one) 0;
-    first = row 4;
-    second = row 5;
-    values = λ e. let n : _≡_ {A = ℕ} 43 46 = ap length e in omega arith;
-  },
-)
-  where
-    row : (k : ℕ) → getD (map (λ (r : Row). lookup packLimit (r .pack) (r .bucket) (r .object)) rows) k nothing
-        ≡ getD (map (λ (r : Row). r .answer) rows) k nothing
-    row k = ap (λ l. getD l k nothing) rows-hold

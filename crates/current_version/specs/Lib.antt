@@ -6,4 +6,6 @@ pub mod Packs
 pub mod Deletion
 pub mod Order
 pub mod Bytes
+pub mod Alike
 pub mod Examples
+pub mod TellsApart

@@ -104,17 +104,22 @@ Reads limit x = isLookedAt (x .0) ≡ true → canBeRead limit (x .0) (x .1) ≡
 
 module _ (limit : ℕ) (s : List ℕ) where
   -- the pack of such records
-  pub readable-pack : (rs : List Record) → Readable limit rs → layouts rs ≡ s → ReadablePack limit s
-  readable-pack rs a is =
+  pub pack-of-read : (rs : List Record) → layouts rs ≡ s → reading limit s ≡ record { entries = entriesOf 0 rs; ending = whole } → AllRead limit rs
+      → ReadablePack limit s
+  pack-of-read rs is read all =
       let same : map ofRecord rs ≡ map (ofEntry s) (entriesOf 0 rs) = sym (tags-and-values 0 rs s (sym is)) in
-      let read = layouts-accepted limit s (subst (λ t. length t ≤ limit) is (a .within)) rs (a .fit) is in
       record {
-        accepted = ap (λ (r : Reading). r .ending) read;
-        all-read = λ e m.
+        accepted = rw read;
+        all-read = λ e m looked.
             let o = Memᴰ·of-map ofRecord rs
             (subst (List·Memᴰ (ofEntry s e)) (sym same) (Memᴰ·map (ofEntry s) (subst (λ (r : Reading). List·Memᴰ e (r .entries)) read m))) in
-            subst (Reads limit) (o .2) (a .all-read (o .0) (o .1));
+            let can-be : canBeRead limit (e .tag) (valueOf s e) ≡ true = subst (Reads limit) (o .2) (all (o .0) (o .1)) looked in
+            cc;
       }
+
+  pub readable-pack : (rs : List Record) → Readable limit rs → layouts rs ≡ s → ReadablePack limit s
+  readable-pack rs a is =
+      pack-of-read rs is (layouts-accepted limit s (subst (λ t. length t ≤ limit) is (a .within)) rs (a .fit) is) (a .all-read)
 
   -- and every such pack is one of those
   pub pack-readable : AllBytes s → ReadablePack limit s → (rs : List Record) × Readable limit rs × (layouts rs ≡ s)
@@ -217,7 +222,11 @@ same-forgotten none (some w) e = no-version e
 same-forgotten (some v) none e = no-version (sym e)
 same-forgotten (some v) (some w) e =
     let h = same-version e in
-    record { identifier = ap (λ (x : Version). x .identifier) h; deleteFlag = ap (λ (x : Version). x .deleteFlag) h; value = ap (λ (x : Version). x .value) h }
+    record {
+      identifier = cc (ap (λ (x : Version). x .identifier) h);
+      deleteFlag = cc (ap (λ (x : Version). x .deleteFlag) h);
+      value = cc (ap (λ (x : Version). x .value) h);
+    }
 
 -- so packs answer alike where their records do
 pub same-answers : (limit : ℕ) (rs ts : List Record) (bucket object : List ℕ) → Readable limit rs → Readable limit ts → isName bucket object ≡ true

@@ -1,6 +1,6 @@
--- What the writer and the lookup ensure of one call each, together: demand 3, deletion.
+-- What the writer ensures of a call and another function of the front that it leaves, together; and of the lookup: demand 3, deletion.
 use Prim.Native.Nat.{ℕ, _≤_}
-use mathlib.Core.Bool.{true}
+use mathlib.Core.Bool.{Bool, true, false, cond}
 use mathlib.Core.List.{List}
 use mathlib.Core.Option.{Option, none, some}
 use mathlib.Core.Path.{_≡_, refl, sym, ap, subst, _∙_}
@@ -15,15 +15,53 @@ use Rattle.identifier.specs.Identity.{Identity}
 use Rattle.records.specs.Record.{versionDeleteTag}
 use Rattle.writer.specs.Writing.{Item, deletion, tagOf, ofIdentity, answerOf, written, bufferAfter}
 use Rattle.writer.specs.declared.Written.{Written}
+use Rattle.writer.specs.declared.Written.the-variants as written-answer
 use Rattle.writer_laws.specs.Refusals.{written-exactly}
-use Rattle.current_version.specs.Current.{Answer, isName, lookup}
-use Rattle.current_version.specs.Packs.{ReadablePack}
+use Rattle.current_version.specs.Current.{Answer, refusedAt, isName, lookup}
+use Rattle.current_version.specs.Packs.{ReadablePack, SameAnswer}
 use Rattle.lookup.specs.Answers.{foundOf, FoundInside}
 use Rattle.lookup.specs.declared.Found.{Found}
-use Rattle.demands.specs.Deletion.{TakesOut, told-inside, deletion-takes-out}
-use Rattle.demands.specs.Answers.{looked-up, answersOf, afterwards, CountInside, DeletionInside, DeletionHolds}
+use Rattle.demands.specs.Deletion.{TakesOut, deletion-takes-out}
+use Rattle.demands.specs.Answers.{counted, ofFront, answersOf, lookedUp, WritesFor, CountInside, DeletionInside, DeletionHolds}
 use Rattle.demands.specs.declared.Deletion.{Deletion}
 use Rattle.demands.specs.declared.Deletion.the-variants.{LookedUp, Short, Inadmissible}
+
+-- ---- what is told of the front, where the writer returned a count
+
+pub record OfFront {A : Type 0} (tell : List ℕ → A) (after : List ℕ) (a : refusals.Answer ℕ) (n : ℕ) (x : A) : Type 0 where
+  pub answered : a ≡ result n
+  pub told : x ≡ tell (take n after)
+
+pub of-front : {A : Type 0} (tell : List ℕ → A) (after : List ℕ) (a : refusals.Answer ℕ) (n : ℕ) (x : A)
+    → counted n x ≡ ofFront tell after a → OfFront tell after a n x
+of-front tell after (result m) n x e = record { answered = cc; told = cc }
+of-front tell after (refusals.refused m) n x e = absurd-numbers (cc)
+
+-- the count, and the bytes so far, lie in the buffer
+pub record Within (used n : ℕ) (before : List ℕ) : Type 0 where
+  pub so-far : used ≤ length before
+  pub count : n ≤ length before
+
+pub within : (used n : ℕ) (asked : Option Item) (before : List ℕ) → written packLimit (length before) used asked ≡ result n → Within used n before
+unfolding written
+within used n none before e = absurd-numbers (cc)
+within used n (some item) before e =
+    let w = written-exactly packLimit (length before) used item n .0 e in record { so-far = omega arith; count = omega arith }
+
+pub count-inside : (used : ℕ) (asked : Option Item) (before after : List ℕ) (w : Written) → answerOf w ≡ written packLimit (length before) used asked
+    → length after ≡ length before → CountInside after w
+count-inside used asked before after w e same =
+    record { inside = λ n is. omega (arith, within used n asked before (sym e ∙ ap answerOf is) .count) }
+
+-- ---- the writer's call, only for a name that is admissible
+
+module _ {admissible : Bool} {used : ℕ} {asked : Option Item} {before : List ℕ} where
+  pub called : {w : Written} {after : List ℕ} → admissible ≡ true → answerOf w ≡ written packLimit (length before) used asked
+      → after ≡ bufferAfter packLimit used asked before → WritesFor admissible used asked before w after
+  called t answer buffer = record { answer = rw t answer; buffer = rw t buffer }
+
+  pub not-called : admissible ≡ false → WritesFor admissible used asked before written-answer.Inadmissible before
+  not-called t = record { answer = rw t; buffer = rw t }
 
 -- ---- the lookup, where the writer returned a count
 
@@ -47,52 +85,69 @@ pub asks-deletion : (u : List ℕ) (o : Option Identity) → AsksDelete (ofIdent
 asks-deletion u none = tt
 asks-deletion u (some i) = refl
 
--- of a call that returned a count
-record Counted (used n : ℕ) (asked : Option Item) (before : List ℕ) : Type 0 where
-  inside : n ≤ length before
-  told : used ≤ length before
-  takes-out : (bucket object : List ℕ) → AsksDelete asked → AllBytes (bufferAfter packLimit used asked before) → ReadablePack packLimit (take used before) → isName bucket object ≡ true
-      → TakesOut packLimit asked (take used before) bucket object (lookup packLimit (take n (bufferAfter packLimit used asked before)) bucket object)
-
-counted : (used n : ℕ) (asked : Option Item) (before : List ℕ) → written packLimit (length before) used asked ≡ result n → Counted used n asked before
+count-takes-out : (used n : ℕ) (asked : Option Item) (before : List ℕ) → written packLimit (length before) used asked ≡ result n
+    → (bucket object : List ℕ) → AsksDelete asked → AllBytes (bufferAfter packLimit used asked before)
+    → ReadablePack packLimit (take used before) → isName bucket object ≡ true
+    → TakesOut packLimit asked (take used before) bucket object (lookup packLimit (take n (bufferAfter packLimit used asked before)) bucket object)
 unfolding written
-counted used n none before e = absurd-numbers (cc)
-counted used n (some item) before e =
-    let w = written-exactly packLimit (length before) used item n .0 e in
-    record {
-      inside = omega arith;
-      told = told-inside packLimit (omega arith) item used n before e;
-      takes-out = deletion-takes-out packLimit (omega arith) item used n before e;
-    }
+count-takes-out used n none before e = absurd-numbers (cc)
+count-takes-out used n (some item) before e = deletion-takes-out packLimit (omega arith) item used n before e
 
 module _ (used : ℕ) (asked : Option Item) (before after : List ℕ) where
-  pub count-inside : (w : Written) → answerOf w ≡ written packLimit (length before) used asked → length after ≡ length before → CountInside after w
-  count-inside w e same = record { inside = λ n is. omega (arith, counted used n asked before (sym e ∙ ap answerOf is) .inside) }
+  record Counts (name : Bool) (n : ℕ) : Type 0 where
+    named : name ≡ true
+    wrote : written packLimit (length before) used asked ≡ result n
+
+  counts : (name : Bool) (n : ℕ) → cond name (written packLimit (length before) used asked) (refusals.refused 20) ≡ result n → Counts name n
+  counts true n e = record { named = refl; wrote = e }
+  counts false n e = absurd-numbers (cc)
+
+  pub deletion-inside : {name : Bool} {w : Written} → WritesFor name used asked before w after → length after ≡ length before → CountInside after w
+  deletion-inside {name} h same =
+      record { inside = λ n is. omega (arith, within used n asked before (counts name n (sym (h .answer) ∙ ap answerOf is) .wrote) .count) }
 
   module _ (bucket object : List ℕ) (r : Deletion) where
-    record LooksUp (n : ℕ) (x : Answer) : Type 0 where
-      wrote : written packLimit (length before) used asked ≡ result n
-      found : x ≡ lookup packLimit (take n after) bucket object
+    abbrev answer : refusals.Answer ℕ
+    answer = cond (isName bucket object) (written packLimit (length before) used asked) (refusals.refused 20)
 
-    looks-up : (n : ℕ) (x : Answer) (a : refusals.Answer ℕ) → written packLimit (length before) used asked ≡ a → looked-up n x ≡ afterwards after bucket object a → LooksUp n x
-    looks-up n x (result m) p e = record { wrote = cc; found = cc }
-    looks-up n x (refusals.refused m) p e = absurd-numbers (cc)
+    no-refusal : (number place : ℕ) (a b : Answer) → a ≡ refusedAt number place → SameAnswer a b → ⊥
+    no-refusal number place a b e s = subst (λ x. SameAnswer x b) e s
 
-    pub deletion-holds : AsksDelete asked → AllBytes after → (w : Written) → answerOf w ≡ written packLimit (length before) used asked → after ≡ bufferAfter packLimit used asked before
-        → answersOf after r ≡ afterwards after bucket object (answerOf w) → DeletionInside after r → DeletionHolds used asked before bucket object r after
-    deletion-holds vd all w wrote buffer found inside =
+    pub deletion-holds : AsksDelete asked → AllBytes after → (w : Written) → WritesFor (isName bucket object) used asked before w after
+        → answersOf after r ≡ ofFront (lookedUp bucket object) after (answerOf w) → DeletionInside after r
+        → DeletionHolds used asked before bucket object r after
+    deletion-holds vd all w wrote found inside =
         record {
           answers = answers;
-          buffer = buffer;
+          buffer = wrote .buffer;
           found-inside = inside;
-          told-inside = λ n f is. counted used n asked before (there n f is .wrote) .told;
-          takes-out = λ n f is readable name.
-              let t = counted used n asked before (there n f is .wrote) .takes-out bucket object vd (subst AllBytes buffer all) readable name in
-              rw (there n f is .found, buffer) t;
+          named = λ n f is. count n f is .named;
+          told-inside = λ n f is. within used n asked before (count n f is .wrote) .so-far;
+          takes-out = takes-out;
+          stands-written = λ n f number place is refuses.
+              record {
+                refuses = sym (there n f is .told) ∙ refuses;
+                counted = count n f is .wrote;
+                buffer = stored n f is;
+                damaged = λ readable. no-refusal number place _ _ refuses (takes-out n f is readable .same);
+              };
         }
       where
-        answers : answersOf after r ≡ afterwards after bucket object (written packLimit (length before) used asked)
-        answers = found ∙ ap (afterwards after bucket object) wrote
+        answers : answersOf after r ≡ ofFront (lookedUp bucket object) after answer
+        answers = found ∙ ap (ofFront (lookedUp bucket object) after) (wrote .answer)
 
-        there : (n : ℕ) (f : Found) → r ≡ LookedUp n f → LooksUp n (foundOf (take n after) f)
-        there n f is = looks-up n (foundOf (take n after) f) (written packLimit (length before) used asked) refl (ap (answersOf after) (sym is) ∙ answers)
+        there : (n : ℕ) (f : Found) → r ≡ LookedUp n f → OfFront (lookedUp bucket object) after answer n (foundOf (take n after) f)
+        there n f is = of-front (lookedUp bucket object) after answer n _ (ap (answersOf after) (sym is) ∙ answers)
+
+        count : (n : ℕ) (f : Found) → r ≡ LookedUp n f → Counts (isName bucket object) n
+        count n f is = counts (isName bucket object) n (there n f is .answered)
+
+        stored : (n : ℕ) (f : Found) → r ≡ LookedUp n f → after ≡ bufferAfter packLimit used asked before
+        stored n f is = wrote .buffer ∙ ap (λ b. cond b (bufferAfter packLimit used asked before) before) (count n f is .named)
+
+        takes-out : (n : ℕ) (f : Found) → r ≡ LookedUp n f → ReadablePack packLimit (take used before)
+            → TakesOut packLimit asked (take used before) bucket object (foundOf (take n after) f)
+        takes-out n f is readable =
+            let c = count n f is in
+            rw (there n f is .told, stored n f is)
+            (count-takes-out used n asked before (c .wrote) bucket object vd (subst AllBytes (stored n f is) all) readable (c .named))

@@ -86,7 +86,7 @@ module _ (limit : ℕ) (small : limit < 2 ^ 32) where
 
   -- ---- the records one after the other, behind any bytes
 
-  means-there : (item : Item) (front rest : List ℕ) → AreBytes item → admitted item ≡ true
+  pub means-there : (item : Item) (front rest : List ℕ) → AreBytes item → admitted item ≡ true
       → length (front ++ (itemBytes item ++ rest)) ≤ limit → length (valueOf item) ≤ limit
       → Means limit (front ++ (itemBytes item ++ rest)) item (entryOf (length front) (recordFor item))
   means-there item front rest b a l m =
@@ -96,8 +96,8 @@ module _ (limit : ℕ) (small : limit < 2 ^ 32) where
       record {
         tag = refl;
         found = held .found;
-        there-is = at ∙ ap (atPlace (valueOf item)) (held .is);
-        holds = ap (recordIn (valueOf item)) (sym (held .is)) ∙ item-reads limit small item b a m;
+        there-is = cc (at ∙ ap (atPlace (valueOf item)) (held .is));
+        holds = cc (ap (recordIn (valueOf item)) (sym (held .is)) ∙ item-reads limit small item b a m);
       }
 
   all-mean : (items : List Item) (front : List ℕ) → AllBytesOf items → AllAdmitted items → length (front ++ layouts (recordsOf items)) ≤ limit
@@ -133,7 +133,7 @@ module _ (limit : ℕ) (small : limit < 2 ^ 32) where
       record {
         count = n;
         exit = overwritten buf 0 e;
-        written = wrote;
+        written = cc (wrote);
         behind = rw (sum, is) (drop-at e (drop (length e) buf) (length e) refl);
         accepted = rw (front, read-all);
         reads = rw (front, read-all) (all-mean items [] b a l);

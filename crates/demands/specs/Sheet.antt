@@ -1,280 +1,471 @@
--- "Can be read" is what the refusal sheet says: a `vr` or `vd` record can be read exactly when none of 9 to 12, 14 to 18 and 22 applies to it.
+-- Which number is given: of the rows of the refusal sheet for one record, in their order, the first that applies; and a record is read exactly when
+-- none does. So "can be read" is what the sheet says.
 use Prim.Native.Nat.{ℕ, _+_}
-use mathlib.Core.Bool.{Bool, true, false, cond, not, _||_}
-use mathlib.Core.List.{List}
+use mathlib.Core.Bool.{Bool, true, false, _||_}
+use mathlib.Core.List.{List, [], _∷_, map, List·Memᴰ, List·Memᴰ·head, List·Memᴰ·tail as past, List·Memᴰ·cases-cons, List·Memᴰ·not-nil}
 use mathlib.Core.Logic.{_↔_, _⊎_, inl, inr, ⊎-elim}
 use mathlib.Core.Option.{Option, none, some}
 use mathlib.Core.Path.{_≡_, refl, sym, ap, subst, _∙_}
 use native.Mathlib.Omega.{arith}
-use borrow.Author.Tests.{eqb-true, eqb-false, ne-eqb}
+use borrow.Author.Tests.{eqb-true, eqb-false}
 use lib.Dec.{eqb}
-use lib.ListN.{length, take}
-use Rattle.slices.specs.Logic.{absurd-numbers}
+use lib.ListN.{length, take, drop}
+use Rattle.slices.specs.Logic.{absurd-numbers, clash}
 use Rattle.refusals.specs.Sheet.{lowest}
-use Rattle.refusals.specs.Answers.{Answer, refused, result, orRefused, ifOnce, unless}
+use Rattle.refusals.specs.Answers.{Answer, refused, result, unless}
 use Rattle.msgpack.specs.Items.{Passage, whole, cut, tooDeep, passOver}
 use Rattle.msgpack.specs.Views.{repeats, byteView}
 use Rattle.identifier.specs.Ulid.{isUlid}
 use Rattle.identifier.specs.Identity.{Identity, isValid, identityOf}
-use Rattle.value.specs.Header.{headerRepeats, tested, header, tellingOf}
+use Rattle.value.specs.Header.{headerRepeats, header, tellingOf}
 use Rattle.value.specs.Reading as value
 use Rattle.value.specs.declared.Told.{Told}
 use Rattle.primary.specs.Parts as primary
-use Rattle.primary.specs.Parts.{fills, versionKeys, versionDeleteKeys, textUnder, textsUnder, deletedUnder, deleteIdKey, valid, ulidOf, versionBy, versionDeleteBy}
-use Rattle.primary.specs.Exactly.{version-names, delete-names}
-use Rattle.records.specs.Record.{versionTag, versionDeleteTag, isKnown, Contents, ofVersion, ofVersionDelete, contents, Record, toldRows, primaryIn, withTold, byValue, readRecord, canBeRead}
-use Rattle.records.specs.Laws.{ReadAs, read-as, can-be-read, the-record}
+use Rattle.primary.specs.Parts.{fills, versionKeys, versionDeleteKeys, textUnder, textsUnder, deletedUnder, deleteIdKey, ulidOf, Shape, shapeUnder, identityBy, blockRepeats}
+use Rattle.records.specs.Record as records
+use Rattle.records.specs.Record.{blockTag, versionTag, versionDeleteTag, isKnown, Contents, contents, Record, toldRows, primaryIn, withTold, readRecord, canBeRead}
+use Rattle.records.specs.Laws.{can-be-read, the-record}
 use Rattle.current_version.specs.Current.{isLookedAt}
 
--- ---- the rows
+-- ---- the rows: each presupposes what its own words need, and not that rows before it do not apply
 
--- 16 to 18, and 22, of a primary part
-pub data PartApplies (tag : ℕ) (part : List ℕ) : ℕ → Type 0 where
-  part-not-filled : fills part ≡ false → PartApplies tag part 16
-  no-identifier : textsUnder byteView part ≡ none → PartApplies tag part 17
-  no-boolean : tag ≡ versionTag → deletedUnder byteView part ≡ none → PartApplies tag part 17
-  no-delete-identifier : tag ≡ versionDeleteTag → textUnder byteView deleteIdKey part ≡ none → PartApplies tag part 17
-  version-key-repeats : tag ≡ versionTag → repeats byteView versionKeys part ≡ true → PartApplies tag part 22
-  delete-key-repeats : tag ≡ versionDeleteTag → repeats byteView versionDeleteKeys part ≡ true → PartApplies tag part 22
-  identifier-breaks-rules : (i : Identity) → textsUnder byteView part ≡ some i → isValid i ≡ false → PartApplies tag part 18
-  delete-identifier-breaks-rules : tag ≡ versionDeleteTag → (t : List ℕ) → textUnder byteView deleteIdKey part ≡ some t → isUlid t ≡ false
-      → PartApplies tag part 18
+-- the first item is the header, and tells t
+pub record HeaderTells (limit : ℕ) (s : List ℕ) (t : Told) : Type 0 where
+  pub size : ℕ
+  pub item : passOver s ≡ whole size
+  pub described : header limit (take size s) ≡ some t
 
--- 9 to 12, and 22, of a value; 14 to 18, and 22 of the primary part, where none of these applies, so that the value tells t
-pub data Applies (limit tag : ℕ) (s : List ℕ) : ℕ → Type 0 where
-  no-whole-item : passOver s ≡ cut → Applies limit tag s 9
-  depth-17 : passOver s ≡ tooDeep → Applies limit tag s 10
-  header-not-described : (n : ℕ) → passOver s ≡ whole n → header limit (take n s) ≡ none → Applies limit tag s 11
-  header-key-repeats : (n : ℕ) → passOver s ≡ whole n → headerRepeats byteView (take n s) ≡ true → Applies limit tag s 22
-  value-not-filled : (n : ℕ) (t : Told) → passOver s ≡ whole n → header limit (take n s) ≡ some t
-      → (n + t .secondary .len ≡ length s → ⊥) → Applies limit tag s 12
-  version-not-0 : (t : Told) → value.reading limit s ≡ result t → (t .version ≡ 0 → ⊥) → Applies limit tag s 14
-  encrypted : (t : Told) → value.reading limit s ≡ result t → t .primary .encrypted ≡ true → Applies limit tag s 15
-  compressed : (t : Told) → value.reading limit s ≡ result t → (t .primary .compression ≡ 0 → ⊥) → Applies limit tag s 15
-  of-part : (t : Told) (n : ℕ) → value.reading limit s ≡ result t → PartApplies tag (primaryIn s t) n → Applies limit tag s n
+-- 17, of a primary part
+pub data NotDescribed (tag : ℕ) (part : List ℕ) : Type 0 where
+  no-shape : tag ≡ blockTag → shapeUnder byteView part ≡ none → NotDescribed tag part
+  no-texts : isLookedAt tag ≡ true → textsUnder byteView part ≡ none → NotDescribed tag part
+  no-boolean : tag ≡ versionTag → deletedUnder byteView part ≡ none → NotDescribed tag part
+  no-delete-identifier : tag ≡ versionDeleteTag → textUnder byteView deleteIdKey part ≡ none → NotDescribed tag part
 
--- ---- a number that is given applies
+-- 22, of a primary part
+pub data KeyRepeats (tag : ℕ) (part : List ℕ) : Type 0 where
+  in-block : tag ≡ blockTag → blockRepeats byteView part ≡ true → KeyRepeats tag part
+  in-version : tag ≡ versionTag → repeats byteView versionKeys part ≡ true → KeyRepeats tag part
+  in-version-delete : tag ≡ versionDeleteTag → repeats byteView versionDeleteKeys part ≡ true → KeyRepeats tag part
 
-module _ {A B P : Type 0} where
-  -- what follows a step, if it is not the step that refuses
-  step : (number n : ℕ) (o : Option A) (next : A → Answer B) → orRefused number o next ≡ refused n → (number ≡ n → o ≡ none → P)
-      → ((a : A) → o ≡ some a → next a ≡ refused n → P) → P
-  step number n none next e here later = here (cc) refl
-  step number n (some a) next e here later = later a refl e
+-- 18
+pub data BreaksRules (tag : ℕ) (part : List ℕ) : Type 0 where
+  shape-breaks : tag ≡ blockTag → (i : Shape) → shapeUnder byteView part ≡ some i → identityBy i ≡ none → BreaksRules tag part
+  texts-break : isLookedAt tag ≡ true → (i : Identity) → textsUnder byteView part ≡ some i → isValid i ≡ false → BreaksRules tag part
+  delete-identifier-breaks : tag ≡ versionDeleteTag → (t : List ℕ) → textUnder byteView deleteIdKey part ≡ some t → isUlid t ≡ false
+      → BreaksRules tag part
 
-once : {B P : Type 0} (n : ℕ) (repeated : Bool) (next : Answer B) → ifOnce repeated next ≡ refused n → (22 ≡ n → repeated ≡ true → P)
-    → (next ≡ refused n → P) → P
-once n true next e here later = here (cc) refl
-once n false next e here later = later e
+-- 22 is two of them
+pub data Row : Type 0 where
+  no-whole-item : Row
+  depth-17 : Row
+  header-not-described : Row
+  header-key-repeats : Row
+  value-not-filled : Row
+  tag-unknown : Row
+  version-not-0 : Row
+  part-encoded : Row
+  part-not-filled : Row
+  part-not-described : Row
+  part-key-repeats : Row
+  rules-broken : Row
 
-valid-none : (i : Identity) → valid i ≡ none → isValid i ≡ false
-unfolding identityOf
-valid-none i e = go (isValid i) e
-  where
-    go : (t : Bool) → cond t (some i) none ≡ none → t ≡ false
-    go true f = absurd-numbers (cc)
-    go false f = refl
+abbrev pub number : Row → ℕ
+number no-whole-item = 9
+number depth-17 = 10
+number header-not-described = 11
+number header-key-repeats = 22
+number value-not-filled = 12
+number tag-unknown = 13
+number version-not-0 = 14
+number part-encoded = 15
+number part-not-filled = 16
+number part-not-described = 17
+number part-key-repeats = 22
+number rules-broken = 18
 
-ulid-none : (t : List ℕ) → ulidOf t ≡ none → isUlid t ≡ false
-unfolding ulidOf
-ulid-none t e = go (isUlid t) e
-  where
-    go : (b : Bool) → cond b (some t) none ≡ none → b ≡ false
-    go true f = absurd-numbers (cc)
-    go false f = refl
+-- to a record with this tag and the value s; of 9 and 10, passing over an item tells the first met from the left
+abbrev pub Applies : ℕ → ℕ → List ℕ → Row → Type 0
+Applies limit tag s no-whole-item = passOver s ≡ cut
+Applies limit tag s depth-17 = passOver s ≡ tooDeep
+Applies limit tag s header-not-described = (n : ℕ) × (passOver s ≡ whole n) × (header limit (take n s) ≡ none)
+Applies limit tag s header-key-repeats = (n : ℕ) × (passOver s ≡ whole n) × (headerRepeats byteView (take n s) ≡ true)
+Applies limit tag s value-not-filled = (t : Told) × (h : HeaderTells limit s t) × (h .size + t .secondary .len ≡ length s → ⊥)
+Applies limit tag s tag-unknown = isKnown tag ≡ false
+Applies limit tag s version-not-0 = (t : Told) × HeaderTells limit s t × (t .version ≡ 0 → ⊥)
+Applies limit tag s part-encoded = (t : Told) × HeaderTells limit s t × ((t .primary .encrypted ≡ true) ⊎ (t .primary .compression ≡ 0 → ⊥))
+Applies limit tag s part-not-filled = (t : Told) × HeaderTells limit s t × (fills (primaryIn s t) ≡ false)
+Applies limit tag s part-not-described = (t : Told) × HeaderTells limit s t × NotDescribed tag (primaryIn s t)
+Applies limit tag s part-key-repeats = (t : Told) × HeaderTells limit s t × KeyRepeats tag (primaryIn s t)
+Applies limit tag s rules-broken = (t : Told) × HeaderTells limit s t × BreaksRules tag (primaryIn s t)
 
-module _ (tag : ℕ) (part : List ℕ) (n : ℕ) where
-  abbrev At : ℕ → Type 0
-  At m = PartApplies tag part m
+-- ---- their order
 
-  filled : {A : Type 0} (next : Answer A) → cond (fills part) next (refused 16) ≡ refused n → (next ≡ refused n → At n) → At n
-  filled next e later = go (fills part) refl e
+abbrev pub sheet : List Row
+sheet =
+    no-whole-item ∷ depth-17 ∷ header-not-described ∷ header-key-repeats ∷ value-not-filled ∷ tag-unknown ∷ version-not-0 ∷ part-encoded
+    ∷ part-not-filled ∷ part-not-described ∷ part-key-repeats ∷ rules-broken ∷ []
+
+pub numbers-in-order : map number sheet ≡ 9 ∷ 10 ∷ 11 ∷ 22 ∷ 12 ∷ 13 ∷ 14 ∷ 15 ∷ 16 ∷ 17 ∷ 22 ∷ 18 ∷ []
+numbers-in-order = refl
+
+-- from a row on
+abbrev fromHeader : List Row
+fromHeader = drop 2 sheet
+
+abbrev fromHeaderKeys : List Row
+fromHeaderKeys = drop 3 sheet
+
+abbrev fromFilling : List Row
+fromFilling = drop 4 sheet
+
+abbrev fromTag : List Row
+fromTag = drop 5 sheet
+
+abbrev fromVersion : List Row
+fromVersion = drop 6 sheet
+
+abbrev fromEncoding : List Row
+fromEncoding = drop 7 sheet
+
+abbrev fromPart : List Row
+fromPart = drop 8 sheet
+
+abbrev fromDescription : List Row
+fromDescription = drop 9 sheet
+
+abbrev fromKeys : List Row
+fromKeys = drop 10 sheet
+
+abbrev fromRules : List Row
+fromRules = drop 11 sheet
+
+-- the first of these rows that applies
+pub data First (P : Row → Type 0) : List Row → Row → Type 0 where
+  here : {r : Row} {rs : List Row} → P r → First P (r ∷ rs) r
+  later : {q r : Row} {rs : List Row} → (P q → ⊥) → First P rs r → First P (q ∷ rs) r
+
+-- ---- what the rows of a list say of an answer
+
+data Outcome (P : Row → Type 0) (a : Answer Record) (rs : List Row) : Type 0 where
+  refuses : (r : Row) → First P rs r → a ≡ refused (number r) → Outcome P a rs
+  reads : ((r : Row) → List·Memᴰ r rs → P r → ⊥) → (x : Record) → a ≡ result x → Outcome P a rs
+
+module _ {P : Row → Type 0} {a : Answer Record} where
+  now : {r : Row} {rs : List Row} → P r → a ≡ refused (number r) → Outcome P a (r ∷ rs)
+  now {r = r} p e = refuses r (here p) e
+
+  pass : {r : Row} {rs : List Row} → (P r → ⊥) → Outcome P a rs → Outcome P a (r ∷ rs)
+  pass n (refuses q f e) = refuses q (later n f) e
+  pass n (reads no-other x e) = reads (λ q m p. ⊎-elim (λ is. n (subst P is p)) (λ l. no-other q l p) (List·Memᴰ·cases-cons m)) x e
+
+  finished : (x : Record) → a ≡ result x → Outcome P a []
+  finished x e = reads (λ r m. absurd (List·Memᴰ·not-nil m)) x e
+
+module _ {P : Row → Type 0} where
+  first-applies : {rs : List Row} {r : Row} → First P rs r → P r
+  first-applies (here p) = p
+  first-applies (later n f) = first-applies f
+
+  first-stands : {rs : List Row} {r : Row} → First P rs r → List·Memᴰ r rs
+  first-stands (here p) = List·Memᴰ·head refl
+  first-stands (later n f) = past (first-stands f)
+
+  one-first : {rs : List Row} {q r : Row} → First P rs q → First P rs r → q ≡ r
+  one-first (here p) (here q) = refl
+  one-first (here p) (later n f) = absurd (n p)
+  one-first (later n f) (here p) = absurd (n p)
+  one-first (later n f) (later m g) = one-first f g
+
+-- ---- 16, 17, 22 and 18: of the primary part, by the tag
+
+-- what is told is one
+one-told : {limit : ℕ} {s : List ℕ} {t u : Told} → HeaderTells limit s t → HeaderTells limit s u → t ≡ u
+one-told {limit} {s} h g =
+    let sizes : h .size ≡ g .size = let e = sym (h .item) ∙ g .item in cc in
+    let e = sym (h .described) ∙ ap (λ n. header limit (take n s)) sizes ∙ g .described in
+    cc
+
+module _ (limit tag : ℕ) (s : List ℕ) (t : Told) (tells : HeaderTells limit s t) where
+  abbrev Here : Row → Type 0
+  Here = Applies limit tag s
+
+  abbrev part : List ℕ
+  part = primaryIn s t
+
+  abbrev answer : Answer Record
+  answer = withTold t (contents tag part)
+
+  -- t is all that is told
+  only : (Q : Told → Type 0) → (Q t → ⊥) → ((u : Told) × HeaderTells limit s u × Q u) → ⊥
+  only Q n x = n (subst Q (one-told (x .1) tells) (x .2))
+
+  abbrev AtPart : List Row → Type 0
+  AtPart rows = Outcome Here answer rows
+
+  filling : (fills part ≡ false → answer ≡ refused 16) → (fills part ≡ true → AtPart fromDescription) → AtPart fromPart
+  filling refuses-16 more = by (fills part) refl
     where
-      go : (t : Bool) → fills part ≡ t → cond t next (refused 16) ≡ refused n → At n
-      go true w f = later f
-      go false w f = subst At (cc) (part-not-filled w)
+      by : (b : Bool) → fills part ≡ b → AtPart fromPart
+      by true w = pass (only (λ u. fills (primaryIn s u) ≡ false) (λ x. clash w x)) (more w)
+      by false w = now (t, tells, w) (refuses-16 w)
 
-  version-refused : tag ≡ versionTag → primary.version part ≡ refused n → At n
-  unfolding primary.version
-  version-refused is e =
-      filled (versionBy (textsUnder byteView part) (deletedUnder byteView part) (repeats byteView versionKeys part)) e λ f.
-      step 17 n (textsUnder byteView part) _ f (λ m p. subst At m (no-identifier p)) λ i p g.
-      step 17 n (deletedUnder byteView part) _ g (λ m q. subst At m (no-boolean is q)) λ d q o.
-      once n (repeats byteView versionKeys part) _ o (λ m r. subst At m (version-key-repeats is r)) λ h.
-      step 18 n (valid i) _ h (λ m r. subst At m (identifier-breaks-rules i p (valid-none i r))) λ j r k. absurd-numbers (cc)
+  described : (NotDescribed tag part → ⊥) → AtPart fromKeys → AtPart fromDescription
+  described n more = pass (only (λ u. NotDescribed tag (primaryIn s u)) n) more
 
-  delete-refused : tag ≡ versionDeleteTag → primary.versionDelete part ≡ refused n → At n
-  unfolding primary.versionDelete
-  delete-refused is e =
-      filled (versionDeleteBy (textsUnder byteView part) (textUnder byteView deleteIdKey part) (repeats byteView versionDeleteKeys part)) e λ f.
-      step 17 n (textsUnder byteView part) _ f (λ m p. subst At m (no-identifier p)) λ i p g.
-      step 17 n (textUnder byteView deleteIdKey part) _ g (λ m q. subst At m (no-delete-identifier is q)) λ t q o.
-      once n (repeats byteView versionDeleteKeys part) _ o (λ m r. subst At m (delete-key-repeats is r)) λ h.
-      step 18 n (valid i) _ h (λ m r. subst At m (identifier-breaks-rules i p (valid-none i r))) λ j r k.
-      step 18 n (ulidOf t) _ k (λ m u. subst At m (delete-identifier-breaks-rules is t q (ulid-none t u))) λ v u l. absurd-numbers (cc)
+  once : (KeyRepeats tag part → ⊥) → AtPart fromRules → AtPart fromKeys
+  once n more = pass (only (λ u. KeyRepeats tag (primaryIn s u)) n) more
 
--- ---- the two tags
+  kept : (BreaksRules tag part → ⊥) → (c : Contents) → contents tag part ≡ result c → AtPart fromRules
+  kept n c e = pass (only (λ u. BreaksRules tag (primaryIn s u)) n) (finished (record { told = t; contents = c }) (ap (withTold t) e))
 
-two-tags : (tag : ℕ) → isLookedAt tag ≡ true → (tag ≡ versionTag) ⊎ (tag ≡ versionDeleteTag)
-unfolding isLookedAt
-two-tags tag e = go (eqb tag versionTag) refl e
-  where
-    go : (t : Bool) → eqb tag versionTag ≡ t → (t || eqb tag versionDeleteTag) ≡ true → (tag ≡ versionTag) ⊎ (tag ≡ versionDeleteTag)
-    go true p f = inl (eqb-true _ _ p)
-    go false p f = inr (eqb-true _ _ f)
-
-of-version : (part : List ℕ) → contents versionTag part ≡ ofVersion (primary.version part)
-unfolding contents
-of-version part = refl
-
-of-delete : (part : List ℕ) → contents versionDeleteTag part ≡ ofVersionDelete (primary.versionDelete part)
-unfolding contents
-of-delete part = refl
-
-part-refused : (tag : ℕ) (part : List ℕ) (n : ℕ) → isLookedAt tag ≡ true → contents tag part ≡ refused n → PartApplies tag part n
-part-refused tag part n looked e =
-    ⊎-elim
-    (λ is. version-refused tag part n is (version-by (primary.version part) (sym (of-version part) ∙ ap (λ t. contents t part) (sym is) ∙ e)))
-    (λ is. delete-refused tag part n is (delete-by (primary.versionDelete part) (sym (of-delete part) ∙ ap (λ t. contents t part) (sym is) ∙ e)))
-    (two-tags tag looked)
-  where
-    version-by : (a : Answer primary.Version) → ofVersion a ≡ refused n → a ≡ refused n
-    version-by (result v) f = absurd-numbers (cc)
-    version-by (refused m) f = cc
-
-    delete-by : (a : Answer primary.VersionDelete) → ofVersionDelete a ≡ refused n → a ≡ refused n
-    delete-by (result v) f = absurd-numbers (cc)
-    delete-by (refused m) f = cc
-
-module _ (limit tag : ℕ) (s : List ℕ) (n : ℕ) where
-  abbrev Here : ℕ → Type 0
-  Here m = Applies limit tag s m
-
-  value-refused : value.reading limit s ≡ refused n → Here n
-  unfolding value.reading
-  value-refused e = by (passOver s) refl e
+  block-rows : tag ≡ blockTag → AtPart fromPart
+  unfolding contents primary.block isLookedAt
+  block-rows is = filling (λ w. rw (is, w)) (λ w. shape w (shapeUnder byteView part) refl)
     where
-      filling : (k : ℕ) (t : Told) → passOver s ≡ whole k → header limit (take k s) ≡ some t → (b : Bool)
-          → eqb (k + t .secondary .len) (length s) ≡ b → cond b (result t) (refused 12) ≡ refused n → Here n
-      filling k t p h true q f = absurd-numbers (cc)
-      filling k t p h false q f = subst Here (cc) (value-not-filled k t p h (eqb-false _ _ q))
+      not-looked-at : {C : Type 0} → isLookedAt tag ≡ true → C
+      not-looked-at e = let f = rw is at e in absurd-numbers (cc)
 
-      described : (k : ℕ) → passOver s ≡ whole k → (r : Bool) → headerRepeats byteView (take k s) ≡ r → (o : Option Told) → header limit (take k s) ≡ o
-          → value.filled k s (tested r o) ≡ refused n → Here n
-      described k p false r (some t) h f = filling k t p h (eqb (k + t .secondary .len) (length s)) refl f
-      described k p true r (some t) h f = subst Here (cc) (header-key-repeats k p r)
-      described k p b r none h f = subst Here (cc) (header-not-described k p h)
+      shape : fills part ≡ true → (o : Option Shape) → shapeUnder byteView part ≡ o → AtPart fromDescription
+      shape w none h = now (t, tells, no-shape is h) (rw (is, w, h))
+      shape w (some i) h = described missing (repeated (blockRepeats byteView part) refl)
+        where
+          missing : NotDescribed tag part → ⊥
+          missing (no-shape g e) = absurd-numbers (cc)
+          missing (no-texts g e) = not-looked-at g
+          missing (no-boolean g e) = omega arith
+          missing (no-delete-identifier g e) = omega arith
 
-      by : (p : Passage) → passOver s ≡ p → value.byItem limit s p ≡ refused n → Here n
-      by (whole k) p f = described k p (headerRepeats byteView (take k s)) refl (header limit (take k s)) refl f
-      by cut p f = subst Here (cc) (no-whole-item p)
-      by tooDeep p f = subst Here (cc) (depth-17 p)
+          repeated : (b : Bool) → blockRepeats byteView part ≡ b → AtPart fromKeys
+          repeated true n = now (t, tells, in-block is n) (rw (is, w, h, n))
+          repeated false n = once twice (rules (identityBy i) refl)
+            where
+              twice : KeyRepeats tag part → ⊥
+              twice (in-block g e) = clash e n
+              twice (in-version g e) = omega arith
+              twice (in-version-delete g e) = omega arith
 
-  told-refused : (t : Told) → isLookedAt tag ≡ true → isKnown tag ≡ true → value.reading limit s ≡ result t
-      → unless (lowest (toldRows tag (tellingOf t))) (withTold t (contents tag (primaryIn s t))) ≡ refused n → Here n
+              rules : (o : Option Identity) → identityBy i ≡ o → AtPart fromRules
+              rules none r = now (t, tells, shape-breaks is i h r) (rw (is, w, h, n, r))
+              rules (some j) r = kept broken (record { identifier = j; kind = records.block }) (rw (is, w, h, n, r))
+                where
+                  broken : BreaksRules tag part → ⊥
+                  broken (shape-breaks g k e f) = absurd-numbers (cc)
+                  broken (texts-break g k e f) = not-looked-at g
+                  broken (delete-identifier-breaks g k e f) = omega arith
+
+  version-rows : tag ≡ versionTag → AtPart fromPart
+  unfolding contents primary.version identityOf isLookedAt
+  version-rows is = filling (λ w. rw (is, w)) (λ w. texts w (textsUnder byteView part) refl (deletedUnder byteView part) refl)
+    where
+      texts : fills part ≡ true → (o : Option Identity) → textsUnder byteView part ≡ o → (p : Option Bool) → deletedUnder byteView part ≡ p
+          → AtPart fromDescription
+      texts w none h p f = now (t, tells, no-texts (rw is) h) (rw (is, w, h))
+      texts w (some i) h none f = now (t, tells, no-boolean is f) (rw (is, w, h, f))
+      texts w (some i) h (some d) f = described missing (repeated (repeats byteView versionKeys part) refl)
+        where
+          missing : NotDescribed tag part → ⊥
+          missing (no-shape g e) = omega arith
+          missing (no-texts g e) = absurd-numbers (cc)
+          missing (no-boolean g e) = absurd-numbers (cc)
+          missing (no-delete-identifier g e) = omega arith
+
+          repeated : (b : Bool) → repeats byteView versionKeys part ≡ b → AtPart fromKeys
+          repeated true n = now (t, tells, in-version is n) (rw (is, w, h, f, n))
+          repeated false n = once twice (rules (isValid i) refl)
+            where
+              twice : KeyRepeats tag part → ⊥
+              twice (in-block g e) = omega arith
+              twice (in-version g e) = clash e n
+              twice (in-version-delete g e) = omega arith
+
+              rules : (b : Bool) → isValid i ≡ b → AtPart fromRules
+              rules false r = now (t, tells, texts-break (rw is) i h r) (rw (is, w, h, f, n, r))
+              rules true r = kept broken (record { identifier = i; kind = records.version d }) (rw (is, w, h, f, n, r))
+                where
+                  broken : BreaksRules tag part → ⊥
+                  broken (shape-breaks g k e x) = omega arith
+                  broken (texts-break g k e x) = let same : k ≡ i = cc in clash (ap isValid same ∙ r) x
+                  broken (delete-identifier-breaks g k e x) = omega arith
+
+  delete-rows : tag ≡ versionDeleteTag → AtPart fromPart
+  unfolding contents primary.versionDelete identityOf ulidOf isLookedAt
+  delete-rows is = filling (λ w. rw (is, w)) (λ w. texts w (textsUnder byteView part) refl (textUnder byteView deleteIdKey part) refl)
+    where
+      texts : fills part ≡ true → (o : Option Identity) → textsUnder byteView part ≡ o → (p : Option (List ℕ)) → textUnder byteView deleteIdKey part ≡ p
+          → AtPart fromDescription
+      texts w none h p f = now (t, tells, no-texts (rw is) h) (rw (is, w, h))
+      texts w (some i) h none f = now (t, tells, no-delete-identifier is f) (rw (is, w, h, f))
+      texts w (some i) h (some d) f = described missing (repeated (repeats byteView versionDeleteKeys part) refl)
+        where
+          missing : NotDescribed tag part → ⊥
+          missing (no-shape g e) = omega arith
+          missing (no-texts g e) = absurd-numbers (cc)
+          missing (no-boolean g e) = omega arith
+          missing (no-delete-identifier g e) = absurd-numbers (cc)
+
+          repeated : (b : Bool) → repeats byteView versionDeleteKeys part ≡ b → AtPart fromKeys
+          repeated true n = now (t, tells, in-version-delete is n) (rw (is, w, h, f, n))
+          repeated false n = once twice (rules (isValid i) refl (isUlid d) refl)
+            where
+              twice : KeyRepeats tag part → ⊥
+              twice (in-block g e) = omega arith
+              twice (in-version g e) = omega arith
+              twice (in-version-delete g e) = clash e n
+
+              rules : (b : Bool) → isValid i ≡ b → (c : Bool) → isUlid d ≡ c → AtPart fromRules
+              rules false r c u = now (t, tells, texts-break (rw is) i h r) (rw (is, w, h, f, n, r))
+              rules true r false u = now (t, tells, delete-identifier-breaks is d f u) (rw (is, w, h, f, n, r, u))
+              rules true r true u = kept broken (record { identifier = i; kind = records.versionDelete d }) (rw (is, w, h, f, n, r, u))
+                where
+                  broken : BreaksRules tag part → ⊥
+                  broken (shape-breaks g k e x) = omega arith
+                  broken (texts-break g k e x) = let same : k ≡ i = cc in clash (ap isValid same ∙ r) x
+                  broken (delete-identifier-breaks g k e x) = let same : k ≡ d = cc in clash (ap isUlid same ∙ u) x
+
+  three-tags : isKnown tag ≡ true → AtPart fromPart
+  unfolding isKnown
+  three-tags e = by (eqb tag blockTag) refl (eqb tag versionTag) refl e
+    where
+      by : (b : Bool) → eqb tag blockTag ≡ b → (c : Bool) → eqb tag versionTag ≡ c → (b || c || eqb tag versionDeleteTag) ≡ true → AtPart fromPart
+      by true p c q f = block-rows (eqb-true _ _ p)
+      by false p true q f = version-rows (eqb-true _ _ q)
+      by false p false q f = delete-rows (eqb-true _ _ f)
+
+  -- ---- 13 to 15
+
+  abbrev toldAnswer : Answer Record
+  toldAnswer = unless (lowest (toldRows tag (tellingOf t))) answer
+
+  told-rows : Outcome Here toldAnswer fromTag
   unfolding toldRows lowest
-  told-refused t looked known w e = version-test (eqb (t .version) 0) refl (rw known at e)
+  told-rows = known (isKnown tag) refl
     where
-      part-test : (a : Answer Contents) → contents tag (primaryIn s t) ≡ a → withTold t a ≡ refused n → Here n
-      part-test (result c) p f = absurd-numbers (cc)
-      part-test (refused m) p f = of-part t n w (part-refused tag (primaryIn s t) n looked (cc))
+      known : (b : Bool) → isKnown tag ≡ b → Outcome Here toldAnswer fromTag
+      known false k = now k (rw k)
+      known true k = pass (λ x. clash k x) (version (eqb (t .version) 0) refl)
+        where
+          version : (b : Bool) → eqb (t .version) 0 ≡ b → Outcome Here toldAnswer fromVersion
+          version false v = now (t, tells, eqb-false _ _ v) (rw (k, v))
+          version true v =
+              pass (only (λ u. u .version ≡ 0 → ⊥) (λ x. x (eqb-true _ _ v))) (encoded (t .primary .encrypted) refl (eqb (t .primary .compression) 0) refl)
+            where
+              encoded : (b : Bool) → t .primary .encrypted ≡ b → (d : Bool) → eqb (t .primary .compression) 0 ≡ d
+                  → Outcome Here toldAnswer fromEncoding
+              encoded true z d c = now (t, tells, inl z) (rw (k, v, z))
+              encoded false z false c = now (t, tells, inr (eqb-false _ _ c)) (rw (k, v, z, c))
+              encoded false z true c =
+                  let is : answer ≡ toldAnswer = rw (k, v, z, c) in
+                  pass (only (λ u. (u .primary .encrypted ≡ true) ⊎ (u .primary .compression ≡ 0 → ⊥)) (⊎-elim (λ x. clash x z) (λ x. x (eqb-true _ _ c))))
+                  (subst (λ a. Outcome Here a fromPart) is (three-tags k))
 
-      compression-test : (b : Bool) → eqb (t .primary .compression) 0 ≡ b
-          → unless (cond (not b) (some 15) none) (withTold t (contents tag (primaryIn s t))) ≡ refused n → Here n
-      compression-test true p f = part-test (contents tag (primaryIn s t)) refl f
-      compression-test false p f = subst Here (cc) (compressed t w (eqb-false _ _ p))
+-- ---- 9 to 12, and 22
 
-      encryption-test : (b : Bool) → t .primary .encrypted ≡ b
-          → unless (cond (b || not (eqb (t .primary .compression) 0)) (some 15) none) (withTold t (contents tag (primaryIn s t))) ≡ refused n → Here n
-      encryption-test false p f = compression-test (eqb (t .primary .compression) 0) refl f
-      encryption-test true p f = subst Here (cc) (encrypted t w p)
+module _ (limit tag : ℕ) (s : List ℕ) where
+  abbrev AtValue : List Row → Type 0
+  AtValue rows = Outcome (Applies limit tag s) (readRecord limit tag s) rows
 
-      version-test : (b : Bool) → eqb (t .version) 0 ≡ b → unless
-          (cond (not b) (some 14) (cond (t .primary .encrypted || not (eqb (t .primary .compression) 0)) (some 15) none))
-          (withTold t (contents tag (primaryIn s t))) ≡ refused n → Here n
-      version-test true p f = encryption-test (t .primary .encrypted) refl f
-      version-test false p f = subst Here (cc) (version-not-0 t w (eqb-false _ _ p))
+  header-rows : (n : ℕ) → passOver s ≡ whole n → AtValue fromHeader
+  unfolding readRecord value.reading
+  header-rows n p = described-by (header limit (take n s)) refl
+    where
+      of-size : {A : Type 0} (f : List ℕ → A) (m : ℕ) → passOver s ≡ whole m → f (take m s) ≡ f (take n s)
+      of-size f m q = let same : m ≡ n = let e = sym q ∙ p in cc in ap (λ k. f (take k s)) same
 
-known-tag : (tag : ℕ) → isLookedAt tag ≡ true → isKnown tag ≡ true
-unfolding isKnown
-known-tag tag looked = ⊎-elim (λ is. rw is) (λ is. rw is) (two-tags tag looked)
+      described-by : (o : Option Told) → header limit (take n s) ≡ o → AtValue fromHeader
+      described-by none h = now (n, p, h) (rw (p, h))
+      described-by (some t) h =
+          pass (λ x. let e = sym (x .2) ∙ of-size (header limit) (x .0) (x .1) ∙ h in absurd-numbers (cc)) (repeated (headerRepeats byteView (take n s)) refl)
+        where
+          tells : HeaderTells limit s t
+          tells = record { size = n; item = p; described = h }
 
-pub number-applies : (limit tag : ℕ) (s : List ℕ) (n : ℕ) → isLookedAt tag ≡ true → readRecord limit tag s ≡ refused n → Applies limit tag s n
-unfolding readRecord
-number-applies limit tag s n looked e = by (value.reading limit s) refl e
+          filled : headerRepeats byteView (take n s) ≡ false → (b : Bool) → eqb (n + t .secondary .len) (length s) ≡ b → AtValue fromFilling
+          filled r false f = now (t, tells, eqb-false _ _ f) (rw (p, h, r, f))
+          filled r true f =
+              let is : toldAnswer limit tag s t tells ≡ readRecord limit tag s = rw (p, h, r, f) in
+              pass (λ x. x .2 (sizes (x .0) (x .1) ∙ eqb-true _ _ f))
+              (subst (λ a. Outcome (Applies limit tag s) a fromTag) is (told-rows limit tag s t tells))
+            where
+              sizes : (u : Told) (x : HeaderTells limit s u) → x .size + u .secondary .len ≡ n + t .secondary .len
+              sizes u x =
+                  let size : x .size ≡ n = let e = sym (x .item) ∙ p in cc in
+                  let same : u ≡ t = one-told x tells in
+                  rw (size, same)
+
+          repeated : (b : Bool) → headerRepeats byteView (take n s) ≡ b → AtValue fromHeaderKeys
+          repeated true r = now (n, p, r) (rw (p, h, r))
+          repeated false r =
+              pass (λ x. clash (x .2) (of-size (headerRepeats byteView) (x .0) (x .1) ∙ r)) (filled r (eqb (n + t .secondary .len) (length s)) refl)
+
+  by-sheet : AtValue sheet
+  unfolding readRecord value.reading
+  by-sheet = by (passOver s) refl
+    where
+      by : (p : Passage) → passOver s ≡ p → AtValue sheet
+      by cut p = now p (rw p)
+      by tooDeep p = pass (λ x. let e = sym x ∙ p in absurd-numbers (cc)) (now p (rw p))
+      by (whole n) p = pass (λ x. let e = sym x ∙ p in absurd-numbers (cc)) (pass (λ x. let e = sym x ∙ p in absurd-numbers (cc)) (header-rows n p))
+
+-- ---- the theorems
+
+-- every row stands in the list
+first : {r : Row} {rs : List Row} → List·Memᴰ r (r ∷ rs)
+first = List·Memᴰ·head refl
+
+stands : (r : Row) → List·Memᴰ r sheet
+stands no-whole-item = first
+stands depth-17 = past first
+stands header-not-described = past (past first)
+stands header-key-repeats = past (past (past first))
+stands value-not-filled = past (past (past (past first)))
+stands tag-unknown = past (past (past (past (past first))))
+stands version-not-0 = past (past (past (past (past (past first)))))
+stands part-encoded = past (past (past (past (past (past (past first))))))
+stands part-not-filled = past (past (past (past (past (past (past (past first)))))))
+stands part-not-described = past (past (past (past (past (past (past (past (past first))))))))
+stands part-key-repeats = past (past (past (past (past (past (past (past (past (past first)))))))))
+stands rules-broken = past (past (past (past (past (past (past (past (past (past (past first))))))))))
+
+module _ (limit tag : ℕ) (s : List ℕ) where
+  abbrev FirstFor : ℕ → Type 0
+  FirstFor n = (r : Row) × First (Applies limit tag s) sheet r × (number r ≡ n)
+
+  -- refused with n exactly when n is the number of the first row that applies
+  pub refused-exactly : (n : ℕ) → readRecord limit tag s ≡ refused n ↔ ((r : Row) × First (Applies limit tag s) sheet r × (number r ≡ n))
+  refused-exactly n = (there (by-sheet limit tag s), back (by-sheet limit tag s))
+    where
+      there : AtValue limit tag s sheet → readRecord limit tag s ≡ refused n → FirstFor n
+      there (refuses r f e) g = (r, f, cc)
+      there (reads no-row x e) g = absurd-numbers (cc)
+
+      back : AtValue limit tag s sheet → FirstFor n → readRecord limit tag s ≡ refused n
+      back (refuses q f e) x = e ∙ ap (λ r. refused (number r)) (one-first f (x .1)) ∙ ap refused (x .2)
+      back (reads no-row y e) x = absurd (no-row (x .0) (first-stands (x .1)) (first-applies (x .1)))
+
+  -- read exactly when none applies
+  pub read-exactly : ((x : Record) × (readRecord limit tag s ≡ result x)) ↔ ((r : Row) → Applies limit tag s r → ⊥)
+  read-exactly = (there (by-sheet limit tag s), back (by-sheet limit tag s))
+    where
+      there : AtValue limit tag s sheet → (x : Record) × (readRecord limit tag s ≡ result x) → (r : Row) → Applies limit tag s r → ⊥
+      there (refuses q f e) x r = absurd-numbers (let g = x .1 in cc)
+      there (reads no-row y e) x r = no-row r (stands r)
+
+      back : AtValue limit tag s sheet → ((r : Row) → Applies limit tag s r → ⊥) → (x : Record) × (readRecord limit tag s ≡ result x)
+      back (refuses q f e) no-row = absurd (no-row q (first-applies f))
+      back (reads none-of-these y e) no-row = (y, e)
+
+  -- "can be read"; to a `vr` or `vd`, 13 does not apply
+  pub can-be-read-exactly : canBeRead limit tag s ≡ true ↔ ((r : Row) → Applies limit tag s r → ⊥)
+  can-be-read-exactly = (
+    λ e. read-exactly .0 (the-record limit tag s e),
+    λ no-row. let x = read-exactly .1 no-row in can-be-read limit tag s .1 (λ n e. let g = x .1 in absurd-numbers (cc)),
+  )
+
+pub looked-at-is-known : (limit tag : ℕ) (s : List ℕ) → isLookedAt tag ≡ true → Applies limit tag s tag-unknown → ⊥
+unfolding isLookedAt isKnown
+looked-at-is-known limit tag s looked unknown = by (eqb tag blockTag) (eqb tag versionTag) (eqb tag versionDeleteTag) looked unknown
   where
-    by : (a : Answer Told) → value.reading limit s ≡ a → byValue tag s a ≡ refused n → Applies limit tag s n
-    by (result t) w f = told-refused limit tag s n t looked (known-tag tag looked) w f
-    by (refused m) w f = value-refused limit tag s n (cc)
-
--- ---- to a record that is read none applies
-
-version-read : (tag : ℕ) (part : List ℕ) (v : primary.Version) {n : ℕ} → tag ≡ versionTag → primary.version part ≡ result v → PartApplies tag part n → ⊥
-version-read tag part v is e (part-not-filled w) = let h = version-names part v e in absurd-numbers (cc)
-version-read tag part v is e (no-identifier t) = let h = version-names part v e in absurd-numbers (cc)
-version-read tag part v is e (no-boolean k d) = let h = version-names part v e in absurd-numbers (cc)
-version-read tag part v is e (no-delete-identifier k t) = omega arith
-version-read tag part v is e (version-key-repeats k r) = let h = version-names part v e in absurd-numbers (cc)
-version-read tag part v is e (delete-key-repeats k r) = omega arith
-version-read tag part v is e (identifier-breaks-rules i t r) = let h = version-names part v e in absurd-numbers (cc)
-version-read tag part v is e (delete-identifier-breaks-rules k t q r) = omega arith
-
-delete-read : (tag : ℕ) (part : List ℕ) (v : primary.VersionDelete) {n : ℕ} → tag ≡ versionDeleteTag
-    → primary.versionDelete part ≡ result v → PartApplies tag part n → ⊥
-delete-read tag part v is e (part-not-filled w) = let h = delete-names part v e in absurd-numbers (cc)
-delete-read tag part v is e (no-identifier t) = let h = delete-names part v e in absurd-numbers (cc)
-delete-read tag part v is e (no-boolean k d) = omega arith
-delete-read tag part v is e (no-delete-identifier k t) = let h = delete-names part v e in absurd-numbers (cc)
-delete-read tag part v is e (version-key-repeats k r) = omega arith
-delete-read tag part v is e (delete-key-repeats k r) = let h = delete-names part v e in absurd-numbers (cc)
-delete-read tag part v is e (identifier-breaks-rules i t r) = let h = delete-names part v e in absurd-numbers (cc)
-delete-read tag part v is e (delete-identifier-breaks-rules k t q r) = let h = delete-names part v e in absurd-numbers (cc)
-
-part-read : (tag : ℕ) (part : List ℕ) (c : Contents) (n : ℕ) → isLookedAt tag ≡ true → contents tag part ≡ result c → PartApplies tag part n → ⊥
-part-read tag part c n looked e a =
-    ⊎-elim
-    (λ is. version-by is (primary.version part) refl (sym (of-version part) ∙ ap (λ t. contents t part) (sym is) ∙ e))
-    (λ is. delete-by is (primary.versionDelete part) refl (sym (of-delete part) ∙ ap (λ t. contents t part) (sym is) ∙ e))
-    (two-tags tag looked)
-  where
-    version-by : tag ≡ versionTag → (r : Answer primary.Version) → primary.version part ≡ r → ofVersion r ≡ result c → ⊥
-    version-by is (result v) p f = version-read tag part v is p a
-    version-by is (refused m) p f = absurd-numbers (cc)
-
-    delete-by : tag ≡ versionDeleteTag → (r : Answer primary.VersionDelete) → primary.versionDelete part ≡ r → ofVersionDelete r ≡ result c → ⊥
-    delete-by is (result v) p f = delete-read tag part v is p a
-    delete-by is (refused m) p f = absurd-numbers (cc)
-
-same-told : {a : Answer Told} {t u : Told} → a ≡ result t → a ≡ result u → t ≡ u
-same-told e f = cc
-
-not-read : (n : ℕ) (s : List ℕ) (o : Option Told) (t : Told) → value.filled n s (tested true o) ≡ result t → ⊥
-not-read n s (some u) t e = absurd-numbers (cc)
-not-read n s none t e = absurd-numbers (cc)
-
-not-filled : (n : ℕ) (s : List ℕ) (repeated : Bool) (t u : Told) → (n + t .secondary .len ≡ length s → ⊥)
-    → value.filled n s (tested repeated (some t)) ≡ result u → ⊥
-not-filled n s true t u d e = absurd-numbers (cc)
-not-filled n s false t u d e = let f = rw (ne-eqb _ _ d) at e in absurd-numbers (cc)
-
-none-applies : (limit tag : ℕ) (s : List ℕ) (r : Record) {n : ℕ} → isLookedAt tag ≡ true → ReadAs limit tag s r → Applies limit tag s n → ⊥
-unfolding value.reading
-none-applies limit tag s r looked a (no-whole-item p) = let f = rw p at (a .value-tells) in absurd-numbers (cc)
-none-applies limit tag s r looked a (depth-17 p) = let f = rw p at (a .value-tells) in absurd-numbers (cc)
-none-applies limit tag s r looked a (header-not-described n p h) = let f = rw (p, h) at (a .value-tells) in absurd-numbers (cc)
-none-applies limit tag s r looked a (header-key-repeats n p h) = not-read n s (header limit (take n s)) (r .told) (rw (p, h) at (a .value-tells))
-none-applies limit tag s r looked a (value-not-filled n t p h d) =
-    not-filled n s (headerRepeats byteView (take n s)) t (r .told) d (rw (p, h) at (a .value-tells))
-none-applies limit tag s r looked a (version-not-0 t w d) = d (ap (λ (u : Told). u .version) (same-told w (a .value-tells)) ∙ a .version)
-none-applies limit tag s r looked a (encrypted t w d) = let same = same-told w (a .value-tells) in absurd-numbers (cc)
-none-applies limit tag s r looked a (compressed t w d) = d (ap (λ (u : Told). u .primary .compression) (same-told w (a .value-tells)) ∙ a .not-compressed)
-none-applies limit tag s r looked a (of-part t n w x) =
-    part-read tag (primaryIn s t) (r .contents) n looked (ap (λ u. contents tag (primaryIn s u)) (same-told w (a .value-tells)) ∙ a .primary-tells) x
-
--- ---- the theorem
-
-pub can-be-read-exactly : (limit tag : ℕ) (s : List ℕ) → isLookedAt tag ≡ true → canBeRead limit tag s ≡ true ↔ ((n : ℕ) → Applies limit tag s n → ⊥)
-can-be-read-exactly limit tag s looked = (
-  λ e n a. let r = the-record limit tag s e in none-applies limit tag s (r .0) looked (read-as limit tag s (r .0) (r .1)) a,
-  λ none. can-be-read limit tag s .1 (λ n e. none n (number-applies limit tag s n looked e)),
-)
+    by : (a b c : Bool) → (b || c) ≡ true → (a || b || c) ≡ false → ⊥
+    by true b c p q = absurd-numbers (cc)
+    by false b c p q = clash p q

@@ -1,5 +1,7 @@
 -- The ULID (document 01): 26 characters of an alphabet of 32, compared as bytes. 26 would hold 130 bits, and a ULID has 128 (request 2).
 use Prim.Native.Nat.{ℕ, zero, suc, _+_, _-_, _<_}
+use Prim.Native.Char.{code}
+use Prim.Native.String.{String, [] as emptyˢ, _∷_ as _∷ˢ_}
 use mathlib.Core.Path.{_≡_, refl, sym, ap, _∙_, subst⁻¹}
 use mathlib.Core.Bool.{Bool, true, false, _&&_}
 use mathlib.Core.List.{List, [], _∷_}
@@ -11,11 +13,21 @@ use lib.ListN.{length, getD}
 use Rattle.slices.specs.Logic.{both}
 use Rattle.identifier.specs.Texts.{member, all}
 
--- 0123456789ABCDEFGHJKMNPQRSTVWXYZ
+-- digits, and capitals but for I, L, O and U
 unfoldable pub alphabet : List ℕ
 alphabet =
     48 ∷ 49 ∷ 50 ∷ 51 ∷ 52 ∷ 53 ∷ 54 ∷ 55 ∷ 56 ∷ 57 ∷ 65 ∷ 66 ∷ 67 ∷ 68 ∷ 69 ∷ 70 ∷ 71 ∷ 72 ∷ 74 ∷ 75 ∷ 77 ∷ 78 ∷ 80
     ∷ 81 ∷ 82 ∷ 83 ∷ 84 ∷ 86 ∷ 87 ∷ 88 ∷ 89 ∷ 90 ∷ []
+
+-- a text's characters, as bytes where they are ASCII
+unfoldable pub codes : String → List ℕ
+codes emptyˢ = []
+codes (c ∷ˢ s) = code c ∷ codes s
+
+-- the letters, as document 01 prints them
+pub alphabet-is : alphabet ≡ codes "0123456789ABCDEFGHJKMNPQRSTVWXYZ"
+unfolding alphabet codes
+alphabet-is = refl
 
 -- a byte is a character of a ULID
 unfoldable pub isCharacter : ℕ → Bool

@@ -60,7 +60,8 @@ pub record TextsWithin (outer : Place) (t : Texts) : Type 0 where
 -- of a version whose value stands at a place: the primary part is the one that the value tells
 pub record VersionTold (s : List ℕ) (value primary : Place) (t : Texts) : Type 0 where
   pub readable : canBeRead packLimit versionTag (partAt s value) ≡ true
-  pub primary-is : (r : Record) → readRecord packLimit versionTag (partAt s value) ≡ result r → primary ≡ placeOfPart (partFrom (value .start) (r .told .primary))
+  pub primary-is : (r : Record) → readRecord packLimit versionTag (partAt s value) ≡ result r
+      → primary ≡ placeOfPart (partFrom (value .start) (r .told .primary))
   pub primary-within : Within value primary
   pub identifier : TextsWithin primary t
 

@@ -188,6 +188,7 @@ module _ (s keys : List ℕ) (from count : ℕ) where
     passed = n .passed ∙ sym e;
     map = n .map ∙ sym (ap isWholePassage (n .passed) ∙ w);
     place = λ t. clash t (n .map);
+    untold = λ t. n .untold;
     repeated = λ j l. n .repeated j l ∙ rw (n .map);
   }
 
@@ -221,6 +222,7 @@ module _ (s keys : List ℕ) (from count : ℕ) where
       passed = p ∙ sym (kept .passed ∙ ap (beyond at) (none-left _ (left + left) _ (omega arith)) ∙ ap whole (add-zero at));
       map = m ∙ sym (ap isWholePassage p);
       place = λ t j l. rw places (sym (kept .place j l ∙ last-none _ _ left _ _ _ none));
+      untold = λ t. clash m t;
       repeated = λ j l. rw (m, repeated) (sym (kept .repeated j l ∙ rw (times-none (passItem insideAllowed) (isAsked keys j) left (drop at s) none) (repeat-told _ _)));
     }
 
@@ -304,6 +306,7 @@ module _ (s keys : List ℕ) (eight : length keys ≡ keysAsked) (bytes : AllByt
       passed = is-passed;
       map = f .map ∙ ap isWholePassage is-passed ∙ rw (eq-eqb _ _ k) (and-true (isWholePassage (passOver s)));
       place = λ key a. the-place key a (passOver s) refl;
+      untold = f .untold;
       repeated = λ key a. the-repeat key a (passOver s) refl;
     }
 
@@ -316,6 +319,7 @@ module _ (s keys : List ℕ) (eight : length keys ≡ keysAsked) (bytes : AllByt
     passed = f .passed;
     map = f .map ∙ rw no-map (and-false (isWholePassage (passOver s)));
     place = λ key a. rw (f .map) (no-place key (passOver s));
+    untold = λ t. f .untold;
     repeated = λ key a. f .repeated (position keys (codeOf key)) (a .listed) ∙ no-repeat key (passOver s) refl;
   }
     where

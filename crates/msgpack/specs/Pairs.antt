@@ -131,6 +131,8 @@ pub record PairsRead (s keys : List ℕ) (r : Pairs) : Type 0 where
   -- the place of the last value of each key asked for, if the item is whole
   pub place : (key : List ℕ) → Asked keys key
       → placeIn (r .map) (getD (r .places) (position keys (codeOf key)) 0) ≡ ifWhole (passOver s) (λ n. lastValue key s)
+  -- of no whole map, no place is told
+  pub untold : r .map ≡ false → (j : ℕ) → j < keysAsked → getD (r .places) j 0 ≡ 0
   pub repeated : (key : List ℕ) → Asked keys key → getD (r .repeated) (position keys (codeOf key)) false ≡ isRepeated key s
 
 -- ---- what the code knows on the way
@@ -150,6 +152,7 @@ pub record WithValue (values : Values) (j p : ℕ) (r : Values) : Type 0 where
 pub record NoPairs (p : Passage) (r : Pairs) : Type 0 where
   pub passed : passageOf (r .passed) ≡ p
   pub map : r .map ≡ false
+  pub untold : (j : ℕ) → j < keysAsked → getD (r .places) j 0 ≡ 0
   pub repeated : (j : ℕ) → j < keysAsked → getD (r .repeated) j false ≡ false
 
 -- the key at the front is the j-th of those asked for
@@ -162,5 +165,6 @@ pub record PairsFrom (s keys : List ℕ) (from count : ℕ) (r : Pairs) : Type 0
   pub map : r .map ≡ isWholePassage (passageOf (r .passed))
   pub place : r .map ≡ true → (j : ℕ) → j < keysAsked
       → placeTold (getD (r .places) j 0) ≡ lastWhere (passItem insideAllowed) (isAsked keys j) count from (drop from s) missing
+  pub untold : r .map ≡ false → (j : ℕ) → j < keysAsked → getD (r .places) j 0 ≡ 0
   pub repeated : (j : ℕ) → j < keysAsked
       → getD (r .repeated) j false ≡ (r .map && ltb 1 (timesWhere (passItem insideAllowed) (isAsked keys j) count (drop from s)))

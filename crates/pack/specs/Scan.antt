@@ -1,11 +1,12 @@
 -- The scan: how it ends, and what the lent list holds afterwards.
 use Prim.Native.Nat.{ℕ, zero, suc, _+_}
-use mathlib.Core.Bool.{cond}
+use mathlib.Core.Bool.{Bool, true, false, cond}
 use mathlib.Core.List.{List, [], _∷_, _++_}
 use mathlib.Core.Path.{_≡_, refl, sym, ap, _∙_}
 use native.Mathlib.Omega.{arith}
 use lib.Dec.{leb}
 use lib.ListN.{length, getD, drop}
+use Rattle.slices.specs.Logic.{absurd-numbers}
 use Rattle.tlv.specs.Found.{Found, end, found, fault, step, numberOf}
 use Rattle.tlv.specs.Passing.{passAt, pass-found}
 use Rattle.tlv.specs.declared.RecordHeader.{RecordHeader}
@@ -48,6 +49,30 @@ listed (refused n at) es list = list
 
 abbrev pub listAfter : Reading → List Entry → List Entry
 listAfter r list = listed (r .ending) (r .entries) list
+
+-- what that is, by the scan's answer: with a count, the entries of the pack, so many, and after them what the list held; else what it held
+pub record ListAtExit (r : Reading) (before after : List Entry) : Type 0 where
+  pub filled : (n : ℕ) → scanned r (length before) ≡ counted n → (length (r .entries) ≡ n) × (after ≡ r .entries ++ drop n before)
+  pub refused-kept : (n at : ℕ) → scanned r (length before) ≡ refused n at → after ≡ before
+  pub short-kept : (n : ℕ) → scanned r (length before) ≡ alone n → after ≡ before
+
+pub list-at-exit : (r : Reading) (list : List Entry) → ListAtExit r list (listAfter r list)
+list-at-exit r list = go (r .ending) refl (leb (length (r .entries)) (length list)) refl
+  where
+    go : (e : Ending) → r .ending ≡ e → (t : Bool) → leb (length (r .entries)) (length list) ≡ t → ListAtExit r list (listAfter r list)
+    go whole e true t =
+        let is : scanned r (length list) ≡ counted (length (r .entries)) = rw (e, t) in
+        record {
+          filled = λ n q. let l : length (r .entries) ≡ n = ap written (sym is ∙ q) in (l, rw (e, t, l));
+          refused-kept = λ n at q. absurd-numbers (cc);
+          short-kept = λ n q. absurd-numbers (cc);
+        }
+    go whole e false t =
+        let is : scanned r (length list) ≡ alone 19 = rw (e, t) in
+        record { filled = λ n q. absurd-numbers (cc); refused-kept = λ n at q. absurd-numbers (cc); short-kept = λ n q. rw (e, t) }
+    go (refused k p) e t u =
+        let is : scanned r (length list) ≡ refused k p = rw e in
+        record { filled = λ n q. absurd-numbers (cc); refused-kept = λ n at q. rw e; short-kept = λ n q. absurd-numbers (cc) }
 
 -- ---- a second pass over a checked pack, which computes no hash
 

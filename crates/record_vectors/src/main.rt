@@ -1,4 +1,4 @@
-// Runs vectors through the crates identifier, value, primary, records and writer. Standard input,
+// Runs vectors through the crates pack, identifier, value, primary, records and writer. Standard input,
 // which tests/record_vectors.py makes, is how many vectors there are, and for each its title, its kind,
 // its bytes, and what else the kind takes. A line of standard output is the title and what is found.
 use crate::input::read_field;
@@ -6,6 +6,7 @@ use crate::input::read_number;
 use crate::show::say;
 
 mod input;
+mod names;
 mod readings;
 mod show;
 mod writings;
@@ -24,6 +25,12 @@ const RECORD: usize = 5;
 
 const AT: usize = 6;
 
+const PARTS: usize = 7;
+
+const WALK: usize = 8;
+
+const NAMES: usize = 9;
+
 fn run_kind(kind: usize, bytes: &[u8]) {
     match kind {
         IDENTIFIER => readings::composite(bytes),
@@ -33,6 +40,9 @@ fn run_kind(kind: usize, bytes: &[u8]) {
         DELETE => readings::version_delete(bytes),
         RECORD => readings::record(bytes, read_number()),
         AT => readings::at_place(bytes, read_number()),
+        PARTS => readings::parts(bytes),
+        WALK => readings::walked(bytes, read_number()),
+        NAMES => names::run(bytes),
         _ => writings::run(kind, bytes),
     }
 }

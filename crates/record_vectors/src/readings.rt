@@ -3,6 +3,7 @@ use crate::show;
 use crate::show::say_number;
 use crate::show::say_refusal;
 use identifier::Split;
+use pack::Walked;
 use primary::BlockRead;
 use primary::DeleteRead;
 use primary::Texts;
@@ -31,6 +32,12 @@ pub(crate) fn header(s: &[u8]) {
         value::Reading::Told(t) => show::say_told(0, t),
         value::Reading::Refused(f) => say_refusal(value::number(f)),
     }
+}
+
+// The parts of a value, each by its length and its hash.
+pub(crate) fn parts(s: &[u8]) {
+    show::say_hashed(b'e', value::primary(s));
+    show::say_hashed(b's', value::secondary(s));
 }
 
 // What a primary part tells: the identifier, and what belongs to its kind.
@@ -101,5 +108,19 @@ pub(crate) fn at_place(pack: &[u8], place: usize) {
         AtPlace::TooLong => say_refusal_at(1, 0),
         AtPlace::Fault(f, at) => say_refusal_at(tlv::number(f), at),
         AtPlace::Refused(f) => say_refusal(records::number(f)),
+    }
+}
+
+// What the walker answers to its call number n, from 0.
+pub(crate) fn walked(pack: &[u8], n: usize) {
+    match pack::nth(pack, n) {
+        Walked::Record(e) => {
+            say_number(b'@', e.start);
+            say_number(b't', e.tag as usize);
+            say_number(b'l', e.length as usize);
+        }
+        Walked::End => show::say(b" end"),
+        Walked::TooLong => say_refusal_at(1, 0),
+        Walked::Fault(f, at) => say_refusal_at(tlv::number(f), at),
     }
 }

@@ -1,6 +1,7 @@
 // What is found, printed: numbers and texts behind a letter. `v`, `e`, `s`, `c`, `z` and `d` are keys
 // of the format; `u`, `b` and `o` ULID, bucket and object, `?` a delete identifier; `@` is a place,
-// `l` a length, `n` a count.
+// `l` a length, `n` a count, `t` a tag; `=` is whether two identifiers are the same, `~` whether one has
+// a name.
 use identifier::Identifier;
 use libc::STDOUT_FILENO;
 use primary::Texts;
@@ -25,6 +26,13 @@ pub(crate) fn say_number(letter: u8, n: usize) {
 pub(crate) fn say_refusal(number: u8) {
     say(b" refused ");
     io::print_decimal(STDOUT_FILENO, number as u64);
+}
+
+// Bytes, by their length and their hash.
+pub(crate) fn say_hashed(letter: u8, s: &[u8]) {
+    say_number(letter, s.len());
+    say(b" ");
+    io::print_hex(STDOUT_FILENO, xxh64::xxh64(s), 16);
 }
 
 fn say_text(letter: u8, text: &[u8]) {

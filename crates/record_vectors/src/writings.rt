@@ -3,37 +3,19 @@ ghost use mathlib.Core.Path.{_≡_};
 ghost use lib.ListN.{length};
 use crate::input::read_field;
 use crate::input::read_number;
+use crate::names::read_identifier;
 use crate::readings;
 use crate::show::say;
 use crate::show::say_number;
 use crate::show::say_refusal;
-use identifier::Identifier;
 use libc::STDOUT_FILENO;
 use writer::Written;
 
-const BLOCK: usize = 7;
+const BLOCK: usize = 10;
 
-const VERSION: usize = 8;
+const VERSION: usize = 11;
 
-const DELETE: usize = 9;
-
-// ULID, bucket and object, with slashes behind them in the arrays, where they play no part; and the
-// lengths told of bucket and object, which may be wrong.
-fn read_identifier() -> Identifier {
-    let mut ulid = [b'/'; 26];
-    let mut bucket = [b'/'; 63];
-    let mut object = [b'/'; 1024];
-    read_field(&mut ulid);
-    read_field(&mut bucket);
-    read_field(&mut object);
-    Identifier {
-        ulid,
-        bucket,
-        bucketlen: read_number(),
-        object,
-        objectlen: read_number(),
-    }
-}
+const DELETE: usize = 12;
 
 fn write(kind: usize, out: &mut [u8], used: usize, s: &[u8]) -> Written {
     match kind {

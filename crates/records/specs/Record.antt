@@ -2,6 +2,7 @@
 use Prim.Native.Nat.{ℕ, _+_}
 use mathlib.Core.Bool.{Bool, cond, not, _||_}
 use mathlib.Core.List.{List, [], _∷_}
+use mathlib.Core.Path.{_≡_, refl}
 use lib.Dec.{ltb, leb, eqb}
 use lib.ListN.{length, take, drop}
 use Rattle.refusals.specs.Sheet.{Row, lowest}
@@ -122,6 +123,15 @@ recordAt limit s at =
     cond (leb (length s) at) (alone 20)
     (cond (ltb limit (length s)) (refusedAt 1 0)
     (byStep limit s at (step (drop at s))))
+
+-- 20 is tested before 1, and 1 before 2: three bytes under a limit of one
+place-before-limit : recordAt 1 (0 ∷ 0 ∷ 0 ∷ []) 3 ≡ alone 20
+unfolding recordAt
+place-before-limit = refl
+
+limit-before-header : recordAt 1 (0 ∷ 0 ∷ 0 ∷ []) 2 ≡ refusedAt 1 0
+unfolding recordAt
+limit-before-header = refl
 
 -- ---- as code tells a record: its value starts at a place of a pack, and the parts are places of the pack too
 

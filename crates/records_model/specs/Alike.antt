@@ -1,7 +1,7 @@
 -- Values alike: equal up to the order of pairs in maps, at every depth, and in bytes that themselves hold an encoding.
 use Prim.Native.Nat.{ℕ, _+_, _≤_, max}
 use mathlib.Core.Bool.{Bool, true, false, cond}
-use mathlib.Core.List.{List}
+use mathlib.Core.List.{List, _++_}
 use mathlib.Core.Option.{Option, some, none as nothing}
 use mathlib.Core.Path.{_≡_, refl, ap, _∙_}
 use native.Mathlib.Omega.{arith}
@@ -118,6 +118,12 @@ alike-map (embedded x y z) = neither
 pub data AlikeBytes : List ℕ → List ℕ → Type 0 where
   same-bytes : (e : List ℕ) → AlikeBytes e e
   encodings : {v w : Value} {e f : List ℕ} → Encodes v e → Encodes w f → Alike v w → AlikeBytes e f
+
+-- values of records alike: the same, whatever they hold, or encodings of headers alike and then the same secondary part
+pub data AlikeRecordValues : List ℕ → List ℕ → Type 0 where
+  same-value : (value : List ℕ) → AlikeRecordValues value value
+  headers : {v w : Value} {e f : List ℕ} → Encodes v e → Encodes w f → Alike v w → (secondary : List ℕ)
+      → AlikeRecordValues (e ++ secondary) (f ++ secondary)
 
 bytes-and : (e f g : List ℕ) → AlikeBytes e f → AlikeBytes f g → AlikeBytes e g
 bytes-and e f g (same-bytes d) y = y

@@ -19,6 +19,10 @@ pub data AnswersAlike {A : Type 0} (R : A → A → Type 0) : Answer A → Answe
   second-22 : {n : ℕ} → TypeFault n → AnswersAlike R (refused n) (refused 22)
   both-read : {a b : A} → R a b → AnswersAlike R (result a) (result b)
 
+-- numbers of refusals alike
+abbrev pub NumbersAlike : ℕ → ℕ → Type 0
+NumbersAlike n m = AnswersAlike {A = ⊥} (λ a b. ⊥) (refused n) (refused m)
+
 pub same-answers : {A : Type 0} (a : Answer A) → AnswersAlike (λ b c. b ≡ c) a a
 same-answers (result a) = both-read refl
 same-answers (refused n) = same-refusal n

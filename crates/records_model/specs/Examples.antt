@@ -33,28 +33,28 @@ use Rattle.value.specs.Reading.{reading}
 use Rattle.primary.specs.Parts.{bucketKey, objectKey, ulidKey, identifierKey, fills, textUnder, textsUnder, shapeAt, shapeUnder}
 use Rattle.primary.specs.Parts as part
 use Rattle.records.specs.Record.{blockTag, isKnown, block, contents, toldRows, readRecord}
-use Rattle.records_model.specs.Alike.{Alike, same, maps, arrays, embedded, next as next-alike, no-values-alike, next-pair as next-pair-alike, no-pairs-alike, swapped, and-further}
+use Rattle.records_model.specs.Alike.{Alike, same, maps, arrays, embedded, next as next-alike, no-values-alike, next-pair as next-pair-alike, no-pairs-alike, swapped, and-further, AlikeRecordValues, same-value}
 use Rattle.records_model.specs.Record.{RecordHeld, recordIn}
 use Rattle.records_model.specs.AnswersAlike.{AnswersAlike, SameRecord}
 use Rattle.records_model.specs.TwoSites.{records-alike}
 
 -- ---- texts in two widths
 
-abbrev narrow : List ℕ → List ℕ
+abbrev pub narrow : List ℕ → List ℕ
 narrow t = (0xa0 + length t) ∷ t
 
-abbrev wide : List ℕ → List ℕ
+abbrev pub wide : List ℕ → List ℕ
 wide t = 0xd9 ∷ bigBytes 1 (length t) ++ t
 
-abbrev ulid : List ℕ
+abbrev pub ulid : List ℕ
 ulid =
     0x30 ∷ 0x30 ∷ 0x30 ∷ 0x30 ∷ 0x30 ∷ 0x30 ∷ 0x30 ∷ 0x30 ∷ 0x30 ∷ 0x30 ∷ 0x30 ∷ 0x30 ∷ 0x30 ∷ 0x30 ∷ 0x30 ∷ 0x30 ∷ 0x30
     ∷ 0x30 ∷ 0x30 ∷ 0x30 ∷ 0x30 ∷ 0x30 ∷ 0x30 ∷ 0x30 ∷ 0x30 ∷ 0x31 ∷ []
 
-abbrev herd : List ℕ
+abbrev pub herd : List ℕ
 herd = 0x68 ∷ 0x65 ∷ 0x72 ∷ 0x64 ∷ []
 
-abbrev scan : List ℕ
+abbrev pub scan : List ℕ
 scan = 0x73 ∷ []
 
 abbrev secondary : List ℕ
@@ -109,7 +109,7 @@ abbrev twice : Value → Value → Value
 twice first last = Map (pair (Text primaryKey) (Binary herePartBytes) (pair (Text compressionKey) first (pair (Text compressionKey) last no-pairs)))
 
 -- each value is one byte
-abbrev twiceBytes : ℕ → ℕ → List ℕ
+abbrev pub twiceBytes : ℕ → ℕ → List ℕ
 twiceBytes first last = 0x83 ∷ narrow primaryKey ++ 0xc4 ∷ length herePartBytes ∷ herePartBytes ++ narrow compressionKey
     ++ first ∷ narrow compressionKey ++ last ∷ []
 
@@ -145,19 +145,19 @@ computed = record { here = refl; there = refl; twice-integers = refl; nil-first 
 
 -- ---- these are encodings
 
-isShort : ℕ → List ℕ → Bool
+unfoldable pub isShort : ℕ → List ℕ → Bool
 isShort most t = ltb (length t) most && all (λ b. ltb b 256) t
 
-all-bytes : (t : List ℕ) → all (λ b. ltb b 256) t ≡ true → AllBytes t
+pub all-bytes : (t : List ℕ) → all (λ b. ltb b 256) t ≡ true → AllBytes t
 unfolding all
 all-bytes [] e = none-bytes
 all-bytes (b ∷ t) e = let p = both (ltb b 256) (all (λ b. ltb b 256) t) e in cons-bytes (ltb-true b 256 (p .0)) (all-bytes t (p .1))
 
-narrow-text : (t : List ℕ) → isShort 32 t ≡ true → Encodes (Text t) (narrow t)
+pub narrow-text : (t : List ℕ) → isShort 32 t ≡ true → Encodes (Text t) (narrow t)
 unfolding isShort
 narrow-text t e = let p = both (ltb (length t) 32) _ e in scalar (text (fixstr (length t) (ltb-true _ _ (p .0))) (all-bytes t (p .1)))
 
-wide-text : (t : List ℕ) → isShort 256 t ≡ true → Encodes (Text t) (wide t)
+pub wide-text : (t : List ℕ) → isShort 256 t ≡ true → Encodes (Text t) (wide t)
 unfolding isShort
 wide-text t e = let p = both (ltb (length t) 256) _ e in scalar (text (str8 (number-written 1 (length t) (ltb-true _ _ (p .0)))) (all-bytes t (p .1)))
 
@@ -220,3 +220,11 @@ sites-read-alike = records-alike limit blockTag here-header there-header sites-a
 
 pub twice-alike : (first last : Value) → Alike (twice first last) (twice last first)
 twice-alike first last = maps (next-pair-alike (same _) (same _) (swapped _ _ _ _ no-pairs))
+
+-- ---- values that no reader can read: each is alike to itself
+
+pub empty-alike : AlikeRecordValues [] []
+empty-alike = same-value []
+
+pub twice-itself : AlikeRecordValues (twiceBytes 1 0) (twiceBytes 1 0)
+twice-itself = same-value (twiceBytes 1 0)

@@ -4,6 +4,7 @@ pub mod HeaderReads
 pub mod Primary
 pub mod Record
 pub mod AnswersAlike
+pub mod TellsApart
 pub mod SameReading
 pub mod SameRecords
 pub mod TwoSites

@@ -1,6 +1,6 @@
 -- Parts of a list, as code cuts them from a slice: `take n (drop at s)`.
 use Prim.Native.Nat.{ℕ, _+_, _-_, _≤_}
-use mathlib.Core.List.{List, _++_}
+use mathlib.Core.List.{List, [], _++_}
 use mathlib.Core.Path.{_≡_, sym, ap, _∙_}
 use native.Mathlib.Omega.{arith}
 use lib.ListN.{length, take, drop, length-drop, take-append-drop}
@@ -9,6 +9,10 @@ use lib.Seq.{take-all, length-take-le, take-append-le, drop-append-le, drop-drop
 -- the part from a place to the end
 pub part-to-end : (at : ℕ) (s : List ℕ) → take (length s - at) (drop at s) ≡ drop at s
 part-to-end at s = take-all (length s - at) (drop at s) (omega (arith, length-drop at s))
+
+-- the part from a place to that place
+pub part-to-itself : (at : ℕ) (s : List ℕ) → take (at - at) (drop at s) ≡ []
+part-to-itself at s = ap (λ n. take n (drop at s)) {x = at - at} {y = 0} (omega arith)
 
 -- a part that lies inside is as long as was asked for
 pub part-length : (s : List ℕ) (at n : ℕ) → at + n ≤ length s → length (take n (drop at s)) ≡ n

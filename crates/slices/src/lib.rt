@@ -5,7 +5,7 @@ ghost use Prim.Native.Nat.{_+_, _≤_};
 ghost use lib.Dec.{leb};
 ghost use lib.ListN.{length, take, drop};
 ghost use Rattle.slices.specs.Bytes.{sameBytes};
-ghost use Rattle.slices.specs.Places.{partAt};
+ghost use Rattle.slices.specs.Places.{partAt, addressAt};
 ghost use Rattle.slices.specs.Overwriting.{overwritten, writtenBytes};
 
 // Where something stands in a slice.
@@ -16,12 +16,14 @@ pub struct Place {
 
 // ---- parts
 
-// The elements from a place on; none, past the end.
+// The elements from a place on; past the end none, where the slice ends.
 pub fn from(s: &[u8], at: usize) -> &[u8]
     ensures { λ r. ⌜ now r ≡ drop at (now (s .entry)) ⌝ }
+    ensures address { λ r. ⌜ r .ptr ≡ addressAt (s .entry) at ⌝ }
 {
-    if s.len() <= at {
-        return &s[..0];
+    let end = s.len();
+    if end <= at {
+        return &s[end..end];
     }
     &s[at..]
 }
@@ -29,6 +31,7 @@ pub fn from(s: &[u8], at: usize) -> &[u8]
 // The first bytes, so many or all there are.
 pub fn front(s: &[u8], n: usize) -> &[u8]
     ensures { λ r. ⌜ now r ≡ take n (now (s .entry)) ⌝ }
+    ensures address { λ r. ⌜ r .ptr ≡ s .entry .ptr ⌝ }
 {
     if s.len() <= n {
         return s;
@@ -39,6 +42,7 @@ pub fn front(s: &[u8], n: usize) -> &[u8]
 // The part at a place; of a place that is not inside, what is there.
 pub fn part(s: &[u8], p: Place) -> &[u8]
     ensures { λ r. ⌜ now r ≡ partAt (now (s .entry)) p ⌝ }
+    ensures address { λ r. ⌜ r .ptr ≡ addressAt (s .entry) (p .start) ⌝ }
 {
     front(from(s, p.start), p.len)
 }

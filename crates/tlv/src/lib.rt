@@ -42,7 +42,7 @@ pub struct RecordHeader {
     pub hash: u64,
 }
 
-pub enum HeaderRead {
+enum HeaderRead {
     Header(RecordHeader),
     Fault(Fault),
 }
@@ -75,8 +75,8 @@ impl RecordHeader {
 
     pub const MAGIC: u64 = 0x89544C560D0A1A0A;
 
-    // The header at the front of a slice. Its tests come in the order of their numbers.
-    pub fn read(s: &[u8]) -> HeaderRead
+    // The header at the front of what is left. Its tests come in the order of their numbers.
+    fn read(s: &[u8]) -> HeaderRead
         ensures { λ r. ⌜ foundHeader r ≡ header (now (s .entry)) ⌝ }
     {
         if s.len() < RecordHeader::LENGTH {

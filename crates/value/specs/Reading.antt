@@ -5,6 +5,8 @@ use mathlib.Core.List.{List}
 use mathlib.Core.Path.{_≡_}
 use lib.Dec.{eqb}
 use lib.ListN.{length, take, drop}
+use denote.Ref.{RefT, now}
+use Rattle.slices.specs.Places.{addressAt}
 use Rattle.refusals.specs.Answers.{Answer, refused, result}
 use Rattle.msgpack.specs.Items.{Passage, whole, cut, tooDeep, passOver}
 use Rattle.msgpack.specs.Views.{byteView}
@@ -58,7 +60,8 @@ abbrev pub secondaryPart : Answer Told → Part
 secondaryPart (result t) = t .secondary
 secondaryPart (refused n) = emptyPart
 
--- r is the part p of s: it lies inside, and has this content
-pub record IsPart (s : List ℕ) (p : Part) (r : List ℕ) : Type 0 where
-  pub inside : p .start + p .len ≤ length s
-  pub content : r ≡ take (p .len) (drop (p .start) s)
+-- r is the part p of the slice s: it lies inside, has this content, and is lent from this place
+pub record IsPart (s : RefT (List ℕ)) (p : Part) (r : RefT (List ℕ)) : Type 0 where
+  pub inside : p .start + p .len ≤ length (now s)
+  pub content : now r ≡ take (p .len) (drop (p .start) (now s))
+  pub address : r .ptr ≡ addressAt s (p .start)

@@ -10,7 +10,9 @@ use lib.Dec.{eqb}
 use lib.ListN.{length, take, drop, length-drop}
 use lib.Seq.{take-all, length-take-le}
 use Rattle.slices.specs.Logic.{absurd-numbers}
-use Rattle.slices.specs.Lists.{part-of-front}
+use denote.Ref.{RefT, now}
+use Rattle.slices.specs.Lists.{part-length, part-of-front}
+use Rattle.slices.specs.Places.{address-tells}
 use Rattle.refusals.specs.Answers.{result, refused}
 use Rattle.msgpack.specs.Formats.{binaryKind}
 use Rattle.msgpack.specs.Items.{Passage, whole, cut, tooDeep, passOver, depthAllowed}
@@ -23,7 +25,8 @@ use Rattle.msgpack.specs.ReaderLaws.{part-inside}
 use Rattle.msgpack.specs.LookupLaws.{value-inside}
 use Rattle.value.specs.Fields.{shifted, bytesUnder}
 use Rattle.value.specs.Header.{primaryKey, Telling, telling, headerRepeats, headerBy, tested, toldAt, toldIn, header}
-use Rattle.value.specs.Reading.{filled, byItem, reading}
+use Rattle.value.specs.Reading.{filled, byItem, reading, IsPart}
+use Rattle.value.specs.declared.Part.{Part}
 use Rattle.value.specs.declared.Told.{Told}
 
 -- ---- the header
@@ -137,3 +140,15 @@ module _ (limit : ℕ) (s : List ℕ) (t : Told) (e : reading limit s ≡ result
   secondary-content =
       let i = parts-inside limit s t e in
       take-all (t .secondary .len) (drop (t .secondary .start) s) (omega (arith, i .secondary-last, length-drop (t .secondary .start) s))
+
+-- ---- where a slice is lent from
+
+-- a slice is one part of the value only: equal bytes elsewhere in it are another part
+pub one-start : (s : RefT (List ℕ)) (p q : Part) (r : RefT (List ℕ)) → IsPart s p r → IsPart s q r → p .start ≡ q .start
+one-start s p q r a b = address-tells s (omega (arith, a .inside)) (omega (arith, b .inside)) (sym (a .address) ∙ b .address)
+
+pub one-length : (s : RefT (List ℕ)) (p q : Part) (r : RefT (List ℕ)) → IsPart s p r → IsPart s q r → p .len ≡ q .len
+one-length s p q r a b = sym (long p a) ∙ long q b
+  where
+    long : (p : Part) → IsPart s p r → length (now r) ≡ p .len
+    long p i = ap length (i .content) ∙ part-length (now s) (p .start) (p .len) (i .inside)

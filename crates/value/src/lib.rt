@@ -313,7 +313,7 @@ pub fn read(value: &[u8]) -> Reading
 // A part that lies inside the value.
 fn part_of(value: &[u8], part: Part) -> &[u8]
     requires { ⌜ part .start + part .len ≤ length (now value) ⌝ }
-    ensures { λ r. ⌜ IsPart (now (value .entry)) part (now r) ⌝ }
+    ensures { λ r. ⌜ IsPart (value .entry) part r ⌝ }
 {
     slices::part(
         value,
@@ -326,7 +326,7 @@ fn part_of(value: &[u8], part: Part) -> &[u8]
 
 // The primary part, as a part of the value; of a refused value the empty part.
 pub fn primary(value: &[u8]) -> &[u8]
-    ensures { λ r. ⌜ IsPart (now (value .entry)) (primaryPart (reading packLimit (now (value .entry)))) (now r) ⌝ }
+    ensures { λ r. ⌜ IsPart (value .entry) (primaryPart (reading packLimit (now (value .entry)))) r ⌝ }
 {
     match read(value) {
         Reading::Told(t) => part_of(value, t.primary),
@@ -337,7 +337,7 @@ pub fn primary(value: &[u8]) -> &[u8]
 // The secondary part, as a part of the value; of a refused value, and where none is present, the
 // empty part.
 pub fn secondary(value: &[u8]) -> &[u8]
-    ensures { λ r. ⌜ IsPart (now (value .entry)) (secondaryPart (reading packLimit (now (value .entry)))) (now r) ⌝ }
+    ensures { λ r. ⌜ IsPart (value .entry) (secondaryPart (reading packLimit (now (value .entry)))) r ⌝ }
 {
     match read(value) {
         Reading::Told(t) => part_of(value, t.secondary),

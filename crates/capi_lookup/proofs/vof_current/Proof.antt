@@ -84,7 +84,7 @@ returns-2 c =
     let told = c .before .before .before .before .before .before .before .before .before .before in
     let looked = told .before .before .lookup in
     answers-found _ _ _ _ _ (looked .result) (looked .ensures .0) _ (told .v .given .1) (looked .ensures .1 .version _ (told .v .given .1)) _ _ _
-    (rw (c .before .before .before .before .before .part .ensures, c .before .before .before .before .before .before .before .before .flag .ensures) at (c .before .before .before .before .tell2 .ensures))
+    (rw (c .before .before .before .before .before .part .ensures .0, c .before .before .before .before .before .before .before .before .flag .ensures) at (c .before .before .before .before .tell2 .ensures))
 
 returns-3 : tie.Need-returns-3
 returns-3 c =

@@ -3,7 +3,7 @@ use mathlib.Core.Path.{sym, ap, _∙_}
 use borrow.Author.Needs.{needs}
 use lib.Seq.{length-take-le}
 use Rattle.writer.specs.Writing.{answerOf}
-use Rattle.demands.specs.Answers.{looked-up, afterwards}
+use Rattle.demands.specs.Answers.{counted, ofFront, lookedUp}
 use Rattle.demands.proofs.Calls.{inside-found, inside-short, inside-inadmissible}
 use Rattle.demands.proofs.look_up.Statement.{statement}
 use Rattle.demands.proofs.look_up.Tie as tie
@@ -29,21 +29,22 @@ returns : tie.Need-returns
 returns c =
     let start = c .before .before .before .before .before .before .before .before in
     let told = c .before .before .before .written .given in (
-      ap (looked-up (told .0 .0)) (c .lookup .ensures .0) ∙ ap (λ w. afterwards (start .args .buf .now) (start .args .bucket .now) (start .args .object .now) (answerOf w)) (sym (told .1)),
+      ap (counted (told .0 .0)) (c .lookup .ensures .0)
+          ∙ ap (λ w. ofFront (lookedUp (start .args .bucket .now) (start .args .object .now)) (start .args .buf .now) (answerOf w)) (sym (told .1)),
       inside-found _ _ _ (c .lookup .ensures .1),
     )
 
 returns-2 : tie.Need-returns-2
 returns-2 c =
     let start = c .before .before .before .before .before in (
-      ap (λ w. afterwards (start .args .buf .now) (start .args .bucket .now) (start .args .object .now) (answerOf w)) (sym (c .enum-told .given .1)),
+      ap (λ w. ofFront (lookedUp (start .args .bucket .now) (start .args .object .now)) (start .args .buf .now) (answerOf w)) (sym (c .enum-told .given .1)),
       inside-short _,
     )
 
 returns-3 : tie.Need-returns-3
 returns-3 c =
     let start = c .before .before .before .before .before in (
-      ap (λ w. afterwards (start .args .buf .now) (start .args .bucket .now) (start .args .object .now) (answerOf w)) (sym (c .enum-told2 .given .1)),
+      ap (λ w. ofFront (lookedUp (start .args .bucket .now) (start .args .object .now)) (start .args .buf .now) (answerOf w)) (sym (c .enum-told2 .given .1)),
       inside-inadmissible _,
     )
 

@@ -1,8 +1,9 @@
--- `demands::look_up_in_both` meets its contract: both answers are the definition's, and order plays no part.
+-- `demands::look_up_in_both` meets its contract: both answers are the definition's, and neither order nor encoding plays a part.
 use borrow.Author.Needs.{needs}
 use Rattle.slices.specs.Bytes.{AllBytes}
 use Rattle.refusals.specs.Limit.{packLimit}
 use Rattle.current_version.specs.Bytes.{rearranged-packs-answer-alike}
+use Rattle.demands.specs.Sites.{sites-look-up-alike}
 use Rattle.demands.proofs.look_up_in_both.Statement.{statement}
 use Rattle.demands.proofs.look_up_in_both.Tie as tie
 
@@ -22,7 +23,9 @@ returns c =
       second-is = c .lookup2 .ensures .0;
       first-inside = c .before .lookup .ensures .1;
       second-inside = c .lookup2 .ensures .1;
-      alike = λ p q same one name. rw (c .before .lookup .ensures .0, c .lookup2 .ensures .0) (rearranged-packs-answer-alike packLimit _ _ _ _ first second p q same one name);
+      alike = λ p q same one name. rw (c .before .lookup .ensures .0, c .lookup2 .ensures .0)
+          (rearranged-packs-answer-alike packLimit _ _ _ _ first second p q same one name);
+      sites = λ x. rw (c .before .lookup .ensures .0, c .lookup2 .ensures .0) (sites-look-up-alike packLimit _ _ _ _ x);
     }
 
 pub look-up-in-both-spec : {M : Type 1} → statement M

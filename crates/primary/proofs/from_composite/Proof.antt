@@ -22,7 +22,7 @@ enum-known-slash c = search needs
 slash-found : (c : tie.After-known-told) → some (c .before .slash .given .0 .0) ≡ slashIn (partAt (c .before .before .before .before .before .before .args .part .now) (c .before .before .before .before .before .before .args .text))
 slash-found c =
     sym (ap slashOf (c .before .slash .given .1)) ∙ c .before .before .before .split-composite .ensures
-    ∙ ap slashIn (c .before .before .before .before .part .ensures)
+    ∙ ap slashIn (c .before .before .before .before .part .ensures .0)
 
 slash-bounds : (c : tie.After-known-told) → Bounds (c .before .before .before .before .before .before .args .part .now) (c .before .before .before .before .before .before .args .text .start) (c .before .before .before .before .before .before .args .text .len) (c .before .before .before .before .before .before .pre .end) (c .before .slash .given .0 .0) (slash-found c)
 slash-bounds c = bounds _ _ _ (c .before .before .before .before .before .before .pre .end) _ (slash-found c)
@@ -53,7 +53,7 @@ returns c =
 
 returns-2 : tie.Need-returns-2
 returns-2 c =
-    let none-found = sym (ap slashOf (c .enum-told .given .1)) ∙ c .before .before .split-composite .ensures ∙ ap slashIn (c .before .before .before .part .ensures) in
+    let none-found = sym (ap slashOf (c .enum-told .given .1)) ∙ c .before .before .split-composite .ensures ∙ ap slashIn (c .before .before .before .part .ensures .0) in
     (composite-refused _ _ _ (c .before .before .before .before .before .pre .end) none-found, no-block _ _)
 
 pub from-composite-spec : {M : Type 1} → statement M

@@ -31,7 +31,7 @@ abbrev place : tie.After-known-told → Place
 place c = c .before .before .before .before .before .before .args .value
 
 told-is : (c : tie.After-known-told) → reading packLimit (partAt (pack c) (place c)) ≡ result (c .before .t .given .0 .0)
-told-is c = rw (c .before .before .before .before .part .ensures) at (sym (c .before .before .before .read .ensures)) ∙ ap answerOf (c .before .t .given .1)
+told-is c = rw (c .before .before .before .before .part .ensures .0) at (sym (c .before .before .before .read .ensures)) ∙ ap answerOf (c .before .t .given .1)
 
 told-from-requires : tie.Need-told-from-requires
 told-from-requires c κs =
@@ -51,7 +51,7 @@ returns c =
 
 returns-2 : tie.Need-returns-2
 unfolding readRecord
-returns-2 c = (rw (rw (c .before .before .before .before .part .ensures) at (sym (c .before .before .before .read .ensures)) ∙ ap answerOf (c .before .f .given .1)), refused-inside _ _)
+returns-2 c = (rw (rw (c .before .before .before .before .part .ensures .0) at (sym (c .before .before .before .read .ensures)) ∙ ap answerOf (c .before .f .given .1)), refused-inside _ _)
 
 pub read-spec : {M : Type 1} → statement M
 read-spec =

@@ -2,6 +2,7 @@
 use borrow.Author.Needs.{needs}
 use mathlib.Core.Path.{_≡_, sym, ap, _∙_}
 use native.Mathlib.Omega.{arith}
+use Rattle.slices.specs.Places.{address-of-front}
 use Rattle.refusals.specs.Limit.{packLimit}
 use Rattle.refusals.specs.Answers.{result}
 use Rattle.value.specs.Reading.{reading, answerOf}
@@ -35,7 +36,9 @@ returns : tie.Need-returns
 returns c = rw (is-told (c .before)) (c .part-of .ensures)
 
 returns-2 : tie.Need-returns-2
-returns-2 c = rw (sym (c .before .before .before .read .ensures) ∙ ap answerOf (c .before .enum-told .given .1)) (record { inside = search needs; content = search needs })
+returns-2 c =
+    rw (sym (c .before .before .before .read .ensures) ∙ ap answerOf (c .before .enum-told .given .1))
+    (record { inside = search needs; content = search needs; address = address-of-front (c .before .before .before .before .before .args .value) })
 
 pub primary-spec : {M : Type 1} → statement M
 primary-spec =

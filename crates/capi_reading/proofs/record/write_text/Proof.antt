@@ -19,7 +19,7 @@ same-length : tie.Need-same-length
 same-length c = search needs
 
 returns : tie.Need-returns
-returns c = rw (← c .before .before .before .part3 .ensures, ← c .before .before .before .before .part2 .ensures, ← c .before .before .before .before .before .part .ensures) (c .before .before .write-parts .ensures)
+returns c = rw (← c .before .before .before .part3 .ensures .0, ← c .before .before .before .before .part2 .ensures .0, ← c .before .before .before .before .before .part .ensures .0) (c .before .before .write-parts .ensures)
 
 pub write-text-spec : {M : Type 1} → statement M
 write-text-spec =
