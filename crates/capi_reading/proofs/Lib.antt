@@ -3,3 +3,4 @@ mod Scans
 mod Parts
 mod Places
 mod Records
+mod PackLists

@@ -23,7 +23,7 @@ use Rattle.primary.specs.Parts.{identifierKey, bucketKey, objectKey, ulidKey, d
 use Rattle.records.specs.Record.{recordAt}
 use Rattle.records.specs.Laws.{tag-and-value}
 use Rattle.writer.specs.Values.{textItem, pair, blockHeader, blockPart, blockValue, partHeader, partValue, identityPairs, deletePart}
-use Rattle.writer.specs.Writing.{Item, block, version, versionDelete, deletion, valueOf, itemBytes, written, bufferAfter}
+use Rattle.writer.specs.Writing.{Item, block, version, versionDelete, packList, deletion, valueOf, itemBytes, written, bufferAfter}
 use Rattle.writer_laws.specs.Encoded.{IdentityBytes}
 use Rattle.writer_laws.specs.Meaning.{AreBytes}
 use Rattle.writer_laws.specs.Calls.{recordFor}
@@ -82,6 +82,7 @@ handed-bytes : (item : Item) → AllBytes (valueOf item) → AreBytes item
 handed-bytes (block i d) b = block-bytes i d b
 handed-bytes (version p) b = part-bytes p b
 handed-bytes (versionDelete p) b = part-bytes p b
+handed-bytes (packList p) b = part-bytes p b
 handed-bytes (deletion i u) b = delete-part-bytes i u (part-bytes (deletePart i u) b)
 
 -- ---- records that stand before others read as they do by themselves

@@ -16,7 +16,7 @@ use Rattle.primary.specs.Parts as primary
 use Rattle.records.specs.Record.{versionDeleteTag, Contents, readRecord, ofVersionDelete}
 use Rattle.records_model.specs.Record.{RecordHeld, withHeld, is-held}
 use Rattle.records_model.specs.Written.{heldAlone}
-use Rattle.writer.specs.Writing.{Item, block, version, versionDelete, deletion, tagOf, valueOf, admitted, written, bufferAfter}
+use Rattle.writer.specs.Writing.{Item, block, version, versionDelete, packList, deletion, tagOf, valueOf, admitted, written, bufferAfter}
 use Rattle.writer_laws.specs.Meaning.{heldOf, item-reads}
 use Rattle.writer_laws.specs.Calls.{recordFor}
 use Rattle.writer_laws.specs.Refusals.{written-exactly}
@@ -36,6 +36,7 @@ deletedBy none = none
 deletedBy (some (block i d)) = none
 deletedBy (some (version p)) = none
 deletedBy (some (versionDelete p)) = namedBy (primary.versionDelete p)
+deletedBy (some (packList p)) = none
 deletedBy (some (deletion i u)) = some i
 
 -- ---- the sentence: an answer after a call is that for the pack before, with all `vr` records of the identifier taken out
@@ -70,6 +71,7 @@ deletes (versionDelete p) t a = by (primary.versionDelete p) refl a
       names = refl;
     }
     by (refused n) e f = absurd-numbers (cc)
+deletes (packList p) t a = absurd (omega arith)
 deletes (deletion i u) t a = record { identifier = i; is-deleted = refl; held = _; is-held = refl; names = refl }
 
 -- ---- the theorem

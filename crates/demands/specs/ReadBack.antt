@@ -15,11 +15,12 @@ use Rattle.pack.specs.declared.Entry.{Entry}
 use Rattle.pack.specs.Reading.{whole, reading}
 use Rattle.pack.specs.Acceptance.{AllFit, entryOf, entriesOf, layouts-accepted}
 use Rattle.primary.specs.Parts as primary
-use Rattle.records.specs.Record.{Record, there, readRecord, atPlace, recordAt, ofVersion, ofVersionDelete}
+use Rattle.pack_list.specs.Lists as list
+use Rattle.records.specs.Record.{Record, there, readRecord, atPlace, recordAt, ofVersion, ofVersionDelete, ofPackList}
 use Rattle.records.specs.Laws.{tag-and-value}
 use Rattle.records_model.specs.Record.{RecordHeld, recordIn, withHeld, is-held}
 use Rattle.records_model.specs.Written.{heldAlone}
-use Rattle.writer.specs.Writing.{Item, block, version, versionDelete, deletion, tagOf, valueOf, itemBytes, admitted}
+use Rattle.writer.specs.Writing.{Item, block, version, versionDelete, packList, deletion, tagOf, valueOf, itemBytes, admitted}
 use Rattle.writer_laws.specs.Meaning.{heldOf, AreBytes, item-bytes, item-reads}
 use Rattle.writer_laws.specs.Calls.{all-written, writeAll, AllAdmitted, recordFor, recordsOf, calls-write}
 
@@ -64,12 +65,18 @@ means (versionDelete p) a = by (primary.versionDelete p) a
     by : (r : Answer primary.VersionDelete) → isResult r ≡ true → (h : RecordHeld) × (withHeld (heldAlone p) (ofVersionDelete r) ≡ result h)
     by (result v) t = (_, refl)
     by (refused n) t = absurd-numbers (cc)
+means (packList p) a = by (list.packList p) a
+  where
+    by : (r : Answer list.PackList) → isResult r ≡ true → (h : RecordHeld) × (withHeld (heldAlone p) (ofPackList r) ≡ result h)
+    by (result l) t = (_, refl)
+    by (refused n) t = absurd-numbers (cc)
 means (deletion i u) a = (_, refl)
 
 tag-fits : (item : Item) → tagOf item < 2 ^ 16
 tag-fits (block i d) = omega arith
 tag-fits (version p) = omega arith
 tag-fits (versionDelete p) = omega arith
+tag-fits (packList p) = omega arith
 tag-fits (deletion i u) = omega arith
 
 module _ (limit : ℕ) (small : limit < 2 ^ 32) where

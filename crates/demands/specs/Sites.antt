@@ -151,6 +151,7 @@ same-role : (i : Identity) (k : Kind) → AlikeRoles NumbersAlike (roleBy i k) (
 same-role i records.block = others
 same-role i (records.version deleteFlag) = versions i deleteFlag
 same-role i (records.versionDelete deleteId) = deletions i
+same-role i (records.packList entries) = others
 
 roles-held : {a b : Answer RecordHeld} → AnswersAlike SameRecord a b → AlikeRoles NumbersAlike (roleHeld a) (roleHeld b)
 roles-held (same-refusal n) = unreadables (same-refusal n)

@@ -1,0 +1,9 @@
+pub mod Walks
+pub mod Summing
+pub mod Finding
+pub mod Surveys
+pub mod Listing
+pub mod Keys
+pub mod Ranges
+pub mod Arrays
+pub mod Entries

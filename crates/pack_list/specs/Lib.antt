@@ -1,0 +1,10 @@
+pub mod Lists
+pub mod Blocks
+pub mod Laws
+pub mod ListsAlike
+pub mod Answers
+pub mod Stride
+pub mod Lengths
+pub mod Exactly
+pub mod Reading
+pub mod Examples
