@@ -4,3 +4,4 @@ mod Parts
 mod Places
 mod Records
 mod PackLists
+mod ListWords

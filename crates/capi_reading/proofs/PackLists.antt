@@ -8,16 +8,12 @@ use mathlib.Core.Path.{_≡_, refl, sym, ap, _∙_}
 use native.Mathlib.Omega.{arith}
 use lib.Dec.{leb}
 use lib.ListN.{length, getD, length-drop}
-use Rattle.slices.specs.Logic.{absurd-numbers}
 use Rattle.slices.specs.Overwriting.{writtenBytes}
-use Rattle.slices.specs.Places.{partAt}
 use Rattle.refusals.specs.Answers.{result, refused}
-use Rattle.msgpack.specs.Readers.{Int, readInteger}
-use Rattle.msgpack.specs.Lookup.{ifThere}
-use Rattle.value.specs.Fields.{readNatural}
-use Rattle.pack_list.specs.Lists.{Entry, eachOf}
+use Rattle.pack_list.specs.Lists.{Entry}
 use Rattle.pack_list.specs.Blocks.{Found, nowhere, inEntry, inBlock}
-use Rattle.pack_list.specs.Answers.{itemsIn, entryOf, packPlace, entryItems, foundOf, findIn, EntryStands, FoundStands}
+use Rattle.pack_list.specs.Answers.{entryOf, packPlace, entryItems, foundOf, findIn, EntryStands, FoundStands}
+use Rattle.pack_list.specs.Walks.{entry-is}
 use Rattle.pack_list.specs.declared.Entry as placed
 use Rattle.pack_list.specs.declared.Block.{Block}
 use Rattle.pack_list.specs.declared.Found as found
@@ -26,20 +22,6 @@ use Rattle.words.specs.Words.{answer, answer-whole}
 use Rattle.capi_reading.specs.PackLists.{startOf, packStart, foundWords, findAnswer, findTold}
 
 -- ---- an entry at its places
-
-pub stored-same : (s : List ℕ) (e : placed.Entry) (x : Entry) → entryOf s e ≡ some x → e .stored ≡ x .stored
-unfolding entryOf
-stored-same s e x q = by (eachOf readNatural (itemsIn s (e .lengths))) (eachOf readInteger (itemsIn s (e .deltas))) q
-  where
-    by : (ls : Option (List ℕ)) (ds : Option (List Int))
-        → (ifThere ls λ lengths. ifThere ds λ deltas.
-        some (record { pack = partAt s (e .pack); source = e .source; stored = e .stored; lengths = lengths; deltas = deltas })) ≡ some x
-        → e .stored ≡ x .stored
-    by none ds f = absurd-numbers (cc)
-    by (some ls) none f = absurd-numbers (cc)
-    by (some ls) (some ds) f =
-        let same : record { pack = partAt s (e .pack); source = e .source; stored = e .stored; lengths = ls; deltas = ds } ≡ x = cc in
-        ap (λ (y : Entry). y .stored) same
 
 pub start-told : (s : List ℕ) (number : ℕ) (e : placed.Entry) → EntryStands s number e → packStart s number ≡ e .pack .start
 unfolding packStart
@@ -80,7 +62,7 @@ module _ (s words : List ℕ) (byte : ℕ) (r : found.Found) (finds : foundOf s 
 
         by : (o : Option Entry) → entryOf s e ≡ o → TellsBy (1 ∷ k ∷ 0 ∷ e .pack .start ∷ e .stored .start ∷ e .stored .len ∷ [])
         by none q = absurd (st .here .there q)
-        by (some x) q = find-told (inEntry k x) (ap (foundOf s) is ∙ rw q) _ (rw (start-told s k e st, stored-same s e x q)) refl
+        by (some x) q = find-told (inEntry k x) (ap (foundOf s) is ∙ rw q) _ (rw (start-told s k e st, entry-is s e x q .stored)) refl
 
     pub found-block : (k : ℕ) (e : placed.Entry) (b : Block) → r ≡ found-answer.Block k e b
         → TellsBy (2 ∷ k ∷ b .number ∷ e .pack .start ∷ b .stored .start ∷ b .stored .len ∷ [])

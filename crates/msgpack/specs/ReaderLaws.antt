@@ -1,5 +1,5 @@
 -- What a whole head says; that heads and contents lie within the list; and that the items of a whole array are whole.
-use Prim.Native.Nat.{ℕ, zero, suc, _+_, _-_, _≤_, _<_}
+use Prim.Native.Nat.{ℕ, zero, suc, _+_, _-_, _^_, _≤_, _<_}
 use mathlib.Core.Bool.{Bool, true, false, cond, _&&_}
 use mathlib.Core.List.{List}
 use mathlib.Core.Option.{none, some}
@@ -9,10 +9,12 @@ use native.Mathlib.Omega.{arith}
 use borrow.Author.Tests.{leb-true, eqb-true}
 use lib.Dec.{leb, eqb}
 use lib.ListN.{length, drop}
+use Rattle.slices.specs.Bytes.{AllBytes}
 use Rattle.slices.specs.Logic.{absurd-numbers}
 use Rattle.msgpack.specs.Formats.{unusedKind, arrayKind}
 use Rattle.msgpack.specs.Items.{Head, whole, headOf, itemsOf, beyond, passItems, passItem, WholeItem}
 use Rattle.msgpack.specs.Readers.{isWhole, Part, part, contentAt, Counted, counted, countAt, readArray}
+use Rattle.msgpack.specs.HeadLaws.{head-small}
 use Rattle.msgpack.specs.PassingLaws.{head-within, within-container, Beyond, beyond-whole, Joined, joined, deeper}
 
 pub record IsWhole (kind : ℕ) (h : Head) (n : ℕ) : Type 0 where
@@ -61,6 +63,17 @@ head-inside kind s c e = by (eqb (headOf s .kind) kind) e
     by true q =
         let is : counted (headOf s .count) (headOf s .size) ≡ c = cc in
         rw (← is) (head-within s .inside)
+    by false q = absurd-numbers (cc)
+
+-- and no head counts more
+pub count-small : (kind : ℕ) (s : List ℕ) → AllBytes s → (c : Counted) → countAt kind s ≡ some c → c .count < 2 ^ 33
+unfolding countAt
+count-small kind s bytes c e = by (eqb (headOf s .kind) kind) e
+  where
+    by : (t : Bool) → cond t (some (counted (headOf s .count) (headOf s .size))) none ≡ some c → c .count < 2 ^ 33
+    by true q =
+        let is : counted (headOf s .count) (headOf s .size) ≡ c = cc in
+        rw (← is) (head-small s bytes)
     by false q = absurd-numbers (cc)
 
 -- ---- the items of a whole array

@@ -22,7 +22,7 @@ use Rattle.pack_list.specs.Lists.{eachOf, sum}
 use Rattle.pack_list.specs.Answers.{WholeItems, NumbersInside}
 use Rattle.pack_list.specs.declared.Numbers.{Numbers}
 use Rattle.pack_list.specs.declared.NumbersRead.the-variants as numbers-answer
-use Rattle.pack_list.proofs.Walks.{each-on, each-stops}
+use Rattle.pack_list.specs.Walks.{each-on, each-stops}
 
 -- ---- answers
 

@@ -1,7 +1,7 @@
 -- What is told of an entry, by what was read of its lengths and deltas.
 use Prim.Native.Nat.{ℕ, zero, suc, _+_, _-_, _≤_}
 use mathlib.Core.Bool.{Bool, true, false, cond, _&&_, _||_}
-use mathlib.Core.List.{List, [], _∷_}
+use mathlib.Core.List.{List, []}
 use mathlib.Core.Option.{Option, none, some}
 use mathlib.Core.Path.{_≡_, refl, sym, ap, subst, _∙_}
 use native.Mathlib.Omega.{arith}
@@ -20,7 +20,7 @@ use Rattle.msgpack.specs.LookupLaws.{value-whole}
 use Rattle.msgpack.specs.PairLaws.{told-inside, told-found}
 use Rattle.msgpack.specs.PassingLaws.{joined, bounded}
 use Rattle.msgpack.specs.Readers.{Int, readInteger, readText}
-use Rattle.msgpack.specs.Views.{repeats, textAt, itemsFrom, byteView}
+use Rattle.msgpack.specs.Views.{repeats, textAt, byteView}
 use Rattle.value.specs.Fields.{readNatural}
 use Rattle.pack_list.specs.Lists.{packKey, sourceKey, storedKey, lengthsKey, deltasKey, entryKeys, rangeKeys, Entry, eachOf, listAt, naturalAt, rangeAt, entryAt, rangeRepeats, entryRepeats, sum, isShort, isFilled}
 use Rattle.pack_list.specs.Blocks.{blocks, deltasOf, gains, losses, isCounted, ceiling, strideFor}
@@ -32,6 +32,7 @@ use Rattle.pack_list.specs.declared.EntryRead.{EntryRead}
 use Rattle.pack_list.specs.declared.EntryRead.the-variants as entry-answer
 use Rattle.pack_list.specs.declared.NextEntry.the-variants as next-answer
 use Rattle.pack_list.specs.Answers.{rangeTold, ValueAt, WholeItems, itemsIn, SumsAre, AreSummed, entryOf, Told, toldOf, toldIn, entryTold, packPlace, SameEntry, EntryHere, EntryInside, NextInside}
+use Rattle.pack_list.specs.Walks.{items-count, each-count}
 
 -- ---- as many items as are counted
 
@@ -46,22 +47,6 @@ items-fit count s w = by count s (w .size) (w .is)
         let j = joined (passItem insideAllowed s) (λ k. passItems (passItem insideAllowed) count (drop k s)) n e in
         let b = bounded insideAllowed s (j .first) (j .is) in
         omega (arith, b .some-byte, b .within, length-drop (j .first) s, by count (drop (j .first) s) (j .after) (j .rest))
-
-items-count : (n : ℕ) (s : List ℕ) → length (itemsFrom n s) ≡ n
-unfolding itemsFrom
-items-count zero s = refl
-items-count (suc n) s = ap suc (items-count n _)
-
-one-more : {B : Type 0} (y : Option B) (rest : Option (List B)) (n : ℕ) (ys : List B) → ((zs : List B) → rest ≡ some zs → length zs ≡ n)
-    → (ifThere y λ a. over (λ found. a ∷ found) rest) ≡ some ys → length ys ≡ suc n
-one-more (some y) (some zs) n ys h e = let same : y ∷ zs ≡ ys = cc in rw (← same) (ap suc (h zs refl))
-one-more (some y) none n ys h e = absurd-numbers (cc)
-one-more none rest n ys h e = absurd-numbers (cc)
-
-each-count : {A B : Type 0} (read : A → Option B) (xs : List A) (ys : List B) → eachOf read xs ≡ some ys → length ys ≡ length xs
-unfolding eachOf
-each-count read [] ys e = let same : [] ≡ ys = cc in rw (← same)
-each-count read (x ∷ xs) ys e = one-more (read x) (eachOf read xs) (length xs) ys (each-count read xs) e
 
 -- ---- the stride
 

@@ -30,32 +30,7 @@ use Rattle.pack_list.specs.declared.BlockFound.the-variants as block-ans
 use Rattle.pack_list.specs.declared.Fault.{Fault}
 use Rattle.pack_list.specs.declared.Found.the-variants as found-answer
 use Rattle.pack_list.specs.Answers.{itemsIn, entryOf, Told, toldOf, toldIn, entryTold, orElse, blockAt, blockOf, notedOf, movedBy, atMost, Offset, foundOf, FoundBy}
-use Rattle.pack_list.proofs.Walks.{none-left, FirstRead, first-read}
-
--- ---- what stands at the places of an entry
-
-pub record EntryIs (s : List ℕ) (e : placed.Entry) (x : Entry) : Type 0 where
-  pub lengths : eachOf readNatural (itemsIn s (e .lengths)) ≡ some (x .lengths)
-  pub deltas : eachOf readInteger (itemsIn s (e .deltas)) ≡ some (x .deltas)
-  pub source : e .source ≡ x .source
-  pub stored : e .stored ≡ x .stored
-
-pub entry-is : (s : List ℕ) (e : placed.Entry) (x : Entry) → entryOf s e ≡ some x → EntryIs s e x
-unfolding entryOf
-entry-is s e x h = go (eachOf readNatural (itemsIn s (e .lengths))) refl (eachOf readInteger (itemsIn s (e .deltas))) refl
-  where
-    go : (o : Option (List ℕ)) → eachOf readNatural (itemsIn s (e .lengths)) ≡ o → (p : Option (List Int)) → eachOf readInteger (itemsIn s (e .deltas)) ≡ p
-        → EntryIs s e x
-    go none a p b = let never = rw a at h in absurd-numbers (cc)
-    go (some ls) a none b = let never = rw (a, b) at h in absurd-numbers (cc)
-    go (some ls) a (some ds) b =
-        let same = rw (a, b) at h in
-        record {
-          lengths = a ∙ (cc);
-          deltas = b ∙ (cc);
-          source = (cc);
-          stored = (cc);
-        }
+use Rattle.pack_list.specs.Walks.{none-left, FirstRead, first-read, entry-is}
 
 -- ---- the lengths and deltas that are left
 

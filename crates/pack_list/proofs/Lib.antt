@@ -1,4 +1,3 @@
-pub mod Walks
 pub mod Summing
 pub mod Finding
 pub mod Surveys

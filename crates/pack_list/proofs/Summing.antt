@@ -22,7 +22,7 @@ use Rattle.pack_list.specs.declared.Numbers.{Numbers}
 use Rattle.pack_list.specs.declared.Sums.{Sums}
 use Rattle.pack_list.specs.declared.Deltas.the-variants as deltas-answer
 use Rattle.pack_list.specs.Answers.{itemsIn, SumsAre, WithDelta, AreSummed, DeltasSummed}
-use Rattle.pack_list.proofs.Walks.{each-on, each-stops, none-left}
+use Rattle.pack_list.specs.Walks.{each-on, each-stops, none-left}
 
 pub ceiling-above : (a n : ℕ) → (a ≡ 0 → ⊥) → 0 < n → (a - 1) / n + 1 ≡ ceiling a (n - 1)
 unfolding ceiling

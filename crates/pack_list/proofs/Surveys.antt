@@ -11,11 +11,8 @@ use lib.Dec.{leb}
 use lib.ListN.{drop, getD}
 use lib.Seq.{drop-drop}
 use Rattle.slices.specs.Logic.{absurd-numbers, both, or-false, or-assoc}
-use Rattle.msgpack.specs.Items.{whole, passItems, passItem, passOver, WholeItem}
+use Rattle.msgpack.specs.Items.{whole, passOver, WholeItem}
 use Rattle.msgpack.specs.Lookup.{ifThere, over}
-use Rattle.msgpack.specs.Pairs.{insideAllowed}
-use Rattle.msgpack.specs.PassingLaws.{Joined, deeper}
-use Rattle.msgpack.specs.ReaderLaws.{items-joined}
 use Rattle.msgpack.specs.Views.{sizeOf, itemsFrom, byteView}
 use Rattle.identifier.specs.Ulid.{isUlid}
 use Rattle.pack_list.specs.Lists.{Entry, eachOf, entryAt, anyOf, entryRepeats, allOf, isFilled}
@@ -29,22 +26,7 @@ use Rattle.pack_list.specs.declared.Holder.{Holder}
 use Rattle.pack_list.specs.declared.Holder.the-variants as holder-answer
 use Rattle.pack_list.specs.declared.Surveyed.the-variants as surveyed-answer
 use Rattle.pack_list.specs.Answers.{itemsIn, WholeItems, entryOf, toldOf, toldIn, entryTold, withTests, holderWith, holderOf, orElse, heldBy, surveyFrom, noEntry, surveyed, surveyOf, HolderInside, SurveyedInside, foundWith}
-use Rattle.pack_list.proofs.Walks.{items-on}
-use Rattle.pack_list.proofs.Finding.{entry-is}
-
--- ---- whole items, one after the other
-
-module _ (n : ℕ) (s : List ℕ) (some-left : 0 < n) (w : WholeItems n s) where
-  first-joined : Joined (passItem insideAllowed s) (λ k. passItems (passItem insideAllowed) (n - 1) (drop k s)) (w .size)
-  first-joined = items-joined n s (w .size) some-left (w .is)
-
-  pub first-whole : WholeItem s
-  first-whole = let j = first-joined in record { size = j .first; is = deeper insideAllowed s (j .first) (j .is) }
-
-  pub others-whole : WholeItems (n - 1) (drop (sizeOf (passOver s)) s)
-  others-whole =
-      let j = first-joined in
-      rw (deeper insideAllowed s (j .first) (j .is)) (record { size = j .after; is = j .rest })
+use Rattle.pack_list.specs.Walks.{items-on, first-whole, others-whole, entry-is}
 
 -- ---- the survey of all entries
 

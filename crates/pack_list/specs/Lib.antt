@@ -3,6 +3,8 @@ pub mod Blocks
 pub mod Laws
 pub mod ListsAlike
 pub mod Answers
+pub mod Walks
+pub mod Counts
 pub mod Stride
 pub mod Lengths
 pub mod Exactly
