@@ -14,6 +14,7 @@ use Rattle.msgpack.specs.Views.{Each, no-more, and-each}
 use Rattle.identifier.specs.Identity.{Identity}
 use Rattle.records.specs.Record.{packListTag}
 use Rattle.current_version.specs.Current.{Role, version, deletion, other, unreadable, isLookedAt, role, Placed, placedBy, versionOf, filtered, better, best, deletes, isDeleted, isLive, current, Answer, alone, readability, answerIn, isName, lookup}
+use Rattle.current_version.specs.Roles.{pack-list-not-looked-at}
 use Rattle.current_version.specs.Best.{best-same}
 use Rattle.current_version.specs.Packs.{standing, lookup-layouts}
 use Rattle.current_version.specs.Alike.{AlikeRoles, versions, deletions, others, unreadables, AlikePlaced, AlikeAnswers, both-alone, answers-alike}
@@ -144,5 +145,4 @@ module _ (limit : ℕ) (front back : List Record) (r : Record) (bucket object : 
           (answers-alike _≡_ (λ p q. moved from size p ≡ q) _≡_ (around limit from size 0 front back (omega arith)) bucket object)
 
   pub pack-list-passed-over : r .tag ≡ packListTag → PassedOver
-  unfolding isLookedAt
-  pack-list-passed-over tag = passed-over (rw tag)
+  pack-list-passed-over tag = passed-over (rw tag pack-list-not-looked-at)
