@@ -28,7 +28,7 @@ use Rattle.writer_laws.specs.Encoded.{IdentityBytes}
 use Rattle.writer_laws.specs.Meaning.{AreBytes}
 use Rattle.writer_laws.specs.Calls.{recordFor}
 use Rattle.writer_laws.specs.Refusals.{written-exactly}
-use Rattle.demands.specs.ReadBack.{Means, fits, means-there}
+use Rattle.writer_laws.specs.ReadBack.{Means, fits, means-there}
 
 -- ---- what is written as bytes was handed in as bytes
 

@@ -1,7 +1,6 @@
 pub mod Cases
 pub mod Sites
 pub mod Examples
-pub mod ReadBack
 pub mod Added
 pub mod Deletion
 pub mod Sheet

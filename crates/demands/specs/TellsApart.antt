@@ -5,7 +5,7 @@ use mathlib.Core.Bool.{true, cond}
 use mathlib.Core.List.{List, [], _∷_, _++_, List·Memᴰ}
 use mathlib.Core.Option.{Option, none, some}
 use mathlib.Core.Path.{_≡_, refl, sym, ap, subst, _∙_}
-use lib.ListN.{length, take, drop}
+use lib.ListN.{length, take}
 use Rattle.slices.specs.Logic.{absurd-numbers}
 use Rattle.slices.specs.Places.{partAt}
 use Rattle.slices.specs.declared.Place.{Place}
@@ -17,7 +17,7 @@ use Rattle.pack.specs.Reading.{Reading, whole, reading}
 use Rattle.pack.specs.Acceptance.{entryOf}
 use Rattle.msgpack.specs.Views.{Each, no-more, and-each}
 use Rattle.identifier.specs.Identity.{Identity}
-use Rattle.records.specs.Record.{Record, there, recordAt}
+use Rattle.records.specs.Record.{recordAt}
 use Rattle.records.specs.Answers as told
 use Rattle.records.specs.Answers.{PlaceInside}
 use Rattle.records.specs.declared.Record as declared-record
@@ -26,9 +26,9 @@ use Rattle.records.specs.declared.AtPlace.the-variants as place-answer
 use Rattle.records_model.specs.Record.{recordIn}
 use Rattle.records_model.specs.Alike.{AlikeRecordValues}
 use Rattle.records_model.specs.AnswersAlike.{AnswersAlike, NumbersAlike, SameRecord}
-use Rattle.writer.specs.Writing.{Item, tagOf, valueOf, written, bufferAfter}
+use Rattle.writer.specs.Writing.{Item, valueOf, written, bufferAfter}
 use Rattle.writer_laws.specs.Meaning.{heldOf}
-use Rattle.writer_laws.specs.Calls.{all-written, stopped, writeAll, recordFor}
+use Rattle.writer_laws.specs.Calls.{recordFor}
 use Rattle.current_version.specs.Current as current
 use Rattle.current_version.specs.Current.{Version, Answer, refusedAt, isName, lookup}
 use Rattle.current_version.specs.Packs.{ReadablePack, SameAnswer}
@@ -36,7 +36,6 @@ use Rattle.current_version.specs.TellsApart as answers
 use Rattle.current_version.specs.Bytes.{takenOutOf, SameRecordsIn, OneValueIn}
 use Rattle.lookup.specs.Answers.{foundOf, FoundInside}
 use Rattle.lookup.specs.declared.Found.{Found}
-use Rattle.demands.specs.ReadBack.{Means, AllMean, next, ReadsBack}
 use Rattle.demands.specs.Deletion.{deletedBy, TakesOut}
 use Rattle.demands.specs.Added.{Extends}
 use Rattle.demands.specs.Sites.{AlikeEntries, AlikePacks, heldAt, AllAnswersAlike, next-entry, SameIndex, AlikeLookups}
@@ -105,48 +104,6 @@ module _ (used : ℕ) (asked : Option Item) (before bucket object : List ℕ) (r
 
       pub nothing-was-damaged : ReadablePack packLimit (take used before) → ⊥
       nothing-was-damaged = x .stands-written n f number place is found .damaged
-
--- ---- what was written
-
-module _ (limit : ℕ) (s : List ℕ) (item : Item) (e : Entry) where
-  pub tags-differ : (tag : ℕ) → (tag ≡ tagOf item → ⊥) → Means limit s item (record { start = e .start; tag = tag; length = e .length }) → ⊥
-  tags-differ tag d x = d (x .tag)
-
-  -- the record r with this value stands there
-  module _ (value : List ℕ) (r : Record) (is : recordAt limit s (e .start) ≡ there value r) where
-    pub values-differ : (value ≡ valueOf item → ⊥) → Means limit s item e → ⊥
-    values-differ d x = let same = sym is ∙ x .there-is in d (cc)
-
-    pub meanings-differ : (recordIn value (result r) ≡ heldOf item → ⊥) → Means limit s item e → ⊥
-    meanings-differ d x =
-        let same = sym is ∙ x .there-is in
-        let v : value ≡ valueOf item = cc in
-        let f : r ≡ x .found = cc in
-        d (rw (v, f) (x .holds))
-
-pub first-item-differs : (limit : ℕ) (s : List ℕ) (item : Item) (e : Entry) (items : List Item) (es : List Entry) → (Means limit s item e → ⊥)
-    → AllMean limit s (item ∷ items) (e ∷ es) → ⊥
-first-item-differs limit s item e items es d (next x more) = d x
-
-module _ (limit : ℕ) (items : List Item) (buf : List ℕ) where
-  pub call-is-refused : (n : ℕ) → writeAll limit items 0 buf ≡ stopped n → ReadsBack limit items buf → ⊥
-  call-is-refused n is x = let e = sym is ∙ x .written in absurd-numbers (cc)
-
-  module _ (n : ℕ) (exit : List ℕ) (is : writeAll limit items 0 buf ≡ all-written n exit) (x : ReadsBack limit items buf) where
-    same-count : x .count ≡ n
-    same-count = let e = sym (x .written) ∙ is in cc
-
-    same-exit : x .exit ≡ exit
-    same-exit = let e = sym (x .written) ∙ is in cc
-
-    pub bytes-behind-differ : (drop n exit ≡ drop n buf → ⊥) → ⊥
-    bytes-behind-differ d = d (rw (← same-count, ← same-exit) (x .behind))
-
-    pub pack-is-refused : (reading limit (take n exit) .ending ≡ whole → ⊥) → ⊥
-    pack-is-refused d = d (rw (← same-count, ← same-exit) (x .accepted))
-
-    pub readings-differ : (AllMean limit (take n exit) items (reading limit (take n exit) .entries) → ⊥) → ⊥
-    readings-differ d = d (rw (← same-count, ← same-exit) (x .reads))
 
 -- ---- a record added
 

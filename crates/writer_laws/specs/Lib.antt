@@ -3,3 +3,5 @@ pub mod Meaning
 pub mod Calls
 pub mod Refusals
 pub mod Shortest
+pub mod ReadBack
+pub mod TellsApart
