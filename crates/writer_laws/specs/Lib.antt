@@ -4,4 +4,5 @@ pub mod Calls
 pub mod Refusals
 pub mod Shortest
 pub mod ReadBack
+pub mod Added
 pub mod TellsApart
