@@ -1,6 +1,6 @@
-// What the customer signs, as theorems: each file of specs/ has one of them. The code here only calls the
-// writer, the reader and the lookup, so that demand 3 and demand 2's read-back are ensured of the code
-// that runs.
+// What the customer signs, of the code that runs: the functions here only call the writer, the reader and
+// the lookup, and ensure demand 3 and demand 2's read-back. The theorems are those of crates/demands_laws
+// and crates/writer_laws.
 ghost use mathlib.Core.Path.{_≡_};
 ghost use mathlib.Core.Option.{some};
 ghost use Rattle.identifier.specs.Held.{named};

@@ -3,7 +3,7 @@
 use Prim.Native.Nat.{ℕ, _+_, _^_, _≤_, _<_}
 use mathlib.Core.List.{List, [], _∷_, _++_, append-assoc, append-nil, List·Memᴰ, List·Memᴰ·not-nil, List·Memᴰ·cases-cons}
 use mathlib.Core.Logic.{⊎-elim}
-use mathlib.Core.Option.{some}
+use mathlib.Core.Option.{Option, some}
 use mathlib.Core.Path.{_≡_, sym, ap, subst, subst₂, _∙_}
 use native.Mathlib.Nat.{zero-add}
 use native.Mathlib.Omega.{arith}
@@ -11,6 +11,9 @@ use lib.ListN.{length, take, drop, length-append}
 use lib.Seq.{length-take-le, drop-drop, drop-at, take-append-seam, drop-append-seam}
 use Rattle.slices.specs.Bytes.{AllBytes, tail-bytes, take-bytes, drop-bytes}
 use Rattle.slices.specs.Overwriting.{take-overwritten}
+use Rattle.slices.specs.Places.{partAt}
+use Rattle.slices.specs.declared.Place.{Place}
+use Rattle.refusals.specs.Limit.{packLimit}
 use Rattle.refusals.specs.Answers.{result}
 use Rattle.tlv.specs.Layout.{Record, Fits, head, layout, layouts, length-head, length-layout}
 use Rattle.pack.specs.declared.Entry.{Entry}
@@ -22,13 +25,18 @@ use Rattle.identifier.specs.Composite.{colon, compositeText}
 use Rattle.primary.specs.Parts.{identifierKey, bucketKey, objectKey, ulidKey, deleteIdKey}
 use Rattle.records.specs.Record.{recordAt}
 use Rattle.records.specs.Laws.{tag-and-value}
+use Rattle.records.specs.Answers.{recordIn}
+use Rattle.records.specs.declared.Record as declared-record
+use Rattle.records.specs.declared.AtPlace as declared-place
+use Rattle.records.specs.declared.AtPlace.the-variants as place-answer
+use Rattle.records_model.specs.Record as held
 use Rattle.writer.specs.Values.{textItem, pair, blockHeader, blockPart, blockValue, partHeader, partValue, identityPairs, deletePart}
 use Rattle.writer.specs.Writing.{Item, block, version, versionDelete, packList, deletion, valueOf, itemBytes, written, bufferAfter}
 use Rattle.writer_laws.specs.Encoded.{IdentityBytes}
-use Rattle.writer_laws.specs.Meaning.{AreBytes}
+use Rattle.writer_laws.specs.Meaning.{heldOf, AreBytes}
 use Rattle.writer_laws.specs.Calls.{recordFor}
 use Rattle.writer_laws.specs.Refusals.{written-exactly}
-use Rattle.demands.specs.ReadBack.{Means, fits, means-there}
+use Rattle.writer_laws.specs.ReadBack.{Means, fits, means-there}
 
 -- ---- what is written as bytes was handed in as bytes
 
@@ -132,6 +140,22 @@ module _ (limit : ℕ) (t : List ℕ) where
 pub record Extends (limit : ℕ) (before : List ℕ) (item : Item) (extended : List ℕ) : Type 0 where
   pub reads : reading limit extended ≡ record { entries = reading limit before .entries ++ (entryOf (length before) (recordFor item) ∷ []); ending = whole }
   pub same : (e : Entry) → List·Memᴰ e (reading limit before .entries) → recordAt limit extended (e .start) ≡ recordAt limit before (e .start)
+
+-- what is told of the pack s is the item: the value's bytes; and, at the places of the pack that are told, primary part, data, identifier,
+-- and delete flag or delete identifier
+pub record Tells (s : List ℕ) (item : Item) (p : declared-place.AtPlace) : Type 0 where
+  pub found : declared-record.Record
+  pub value : Place
+  pub is : p ≡ place-answer.Record found value
+  pub value-is : partAt s value ≡ valueOf item
+  pub holds : held.recordIn s (result (recordIn s found)) ≡ heldOf item
+
+-- the record that was asked for is read in the front, and the records before it, where they were accepted, read as they did
+pub record IsAdded (asked : Option Item) (before front : List ℕ) (p : declared-place.AtPlace) : Type 0 where
+  pub item : Item
+  pub is-asked : asked ≡ some item
+  pub tells : Tells front item p
+  pub extends : reading packLimit before .ending ≡ whole → Extends packLimit before item front
 
 module _ (limit : ℕ) (small : limit < 2 ^ 32) (item : Item) (used n : ℕ) (buf : List ℕ) (wrote : written limit (length buf) used (some item) ≡ result n) where
   -- the record stands directly after the pack before, which is as long as was told

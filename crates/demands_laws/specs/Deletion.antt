@@ -23,7 +23,7 @@ use Rattle.writer_laws.specs.Refusals.{written-exactly}
 use Rattle.current_version.specs.Current.{Answer, isName, lookup}
 use Rattle.current_version.specs.Packs.{ReadablePack, SameAnswer}
 use Rattle.current_version.specs.Bytes.{takenOutOf, taken-out, deletion-answers-as-taken-out}
-use Rattle.demands.specs.Added.{record-appended, total, value-within, before-bytes, item-handed, item-fits}
+use Rattle.writer_laws.specs.Added.{record-appended, total, value-within, before-bytes, item-handed, item-fits}
 
 -- ---- the identifier that a call deletes: the one that a part handed in reads as, or the one that was handed in
 

@@ -39,7 +39,7 @@ use Rattle.records.specs.Record.{versionTag, isKnown, contents, toldRows, readR
 use Rattle.records_model.specs.Alike.{same, maps, embedded, next-pair as next-pair-alike, no-pairs-alike, swapped, AlikeRecordValues, same-value, headers}
 use Rattle.records_model.specs.Examples.{narrow, wide, ulid, herd, scan, twiceBytes, isShort, all-bytes, narrow-text, wide-text}
 use Rattle.current_version.specs.Current.{isLookedAt, role, versionOf, filtered, better, best, deletes, isDeleted, isLive, current, Answer, found, refusedAt, readability, answerIn, isName, lookup}
-use Rattle.demands.specs.Sites.{AlikePacks}
+use Rattle.demands_laws.specs.Sites.{AlikePacks}
 
 -- ---- a delete marker: {e: {b, o, v, d}} and {e: {o, b, v, d}}
 
