@@ -4,9 +4,11 @@
 use std::hint::black_box;
 use std::process::{exit, Command};
 
+mod encode;
 mod msgpack;
 mod plain;
 mod plain_lookup;
+mod plain_names;
 mod records;
 mod timing;
 mod tlv;

@@ -5,6 +5,7 @@ use std::cmp::Reverse;
 use std::collections::HashSet;
 
 use crate::msgpack::{map_pairs, Item};
+use crate::plain_names::{is_bucket, is_object, is_ulid};
 use crate::tlv;
 
 /// The start of the current version's record, or the number of the refusal.
@@ -153,17 +154,4 @@ fn secondary_length(parameters: Option<Item>) -> Result<(u64, bool), u32> {
         Some(Item::Natural(l)) if l <= tlv::PACK_LIMIT as u64 => Ok((l, repeated)),
         _ => Err(11),
     }
-}
-
-fn is_ulid(text: &[u8]) -> bool {
-    let is_digit = |b: &u8| matches!(b, b'0'..=b'9' | b'A'..=b'Z') && !b"ILOU".contains(b);
-    text.len() == 26 && text.iter().all(is_digit) && text[0] <= b'7'
-}
-
-fn is_bucket(text: &[u8]) -> bool {
-    (1..=63).contains(&text.len()) && !text.contains(&b'/')
-}
-
-fn is_object(text: &[u8]) -> bool {
-    (1..=1024).contains(&text.len())
 }

@@ -1,31 +1,12 @@
 //! Versions and version deletes as docs/FORMAT.md has them, in shortest forms, made for the benchmark
 //! of the lookup.
 
+use crate::encode::{head, list, map, natural, text, ulid};
 use crate::plain;
 use crate::tlv;
 
-/// The head of an item: one byte where the number is below the limit, else the first of the forms
-/// (byte, width) that holds it.
-fn head(n: usize, short: u8, limit: usize, forms: &[(u8, usize)]) -> Vec<u8> {
-    if n < limit {
-        return vec![short + n as u8];
-    }
-    let &(byte, width) = forms.iter().find(|form| n >> (8 * form.1) == 0).unwrap();
-    [&[byte], &n.to_be_bytes()[8 - width..]].concat()
-}
-
-fn natural(n: usize) -> Vec<u8> {
-    head(n, 0x00, 128, &[(0xCC, 1), (0xCD, 2), (0xCE, 4)])
-}
-
 fn boolean(b: bool) -> Vec<u8> {
     vec![0xC2 + u8::from(b)]
-}
-
-fn text(t: &str) -> Vec<u8> {
-    let mut item = head(t.len(), 0xA0, 32, &[(0xD9, 1), (0xDA, 2), (0xDB, 4)]);
-    item.extend(t.as_bytes());
-    item
 }
 
 fn bytes(b: &[u8]) -> Vec<u8> {
@@ -34,35 +15,10 @@ fn bytes(b: &[u8]) -> Vec<u8> {
     item
 }
 
-fn list(items: &[Vec<u8>]) -> Vec<u8> {
-    let mut item = head(items.len(), 0x90, 16, &[(0xDC, 2), (0xDD, 4)]);
-    item.extend(items.concat());
-    item
-}
-
-fn map(pairs: &[(&str, Vec<u8>)]) -> Vec<u8> {
-    let mut item = head(pairs.len(), 0x80, 16, &[(0xDE, 2), (0xDF, 4)]);
-    for (key, value) in pairs {
-        item.extend(text(key));
-        item.extend(value);
-    }
-    item
-}
-
 pub const BUCKET: &str = "registry";
 
 pub fn object(number: usize) -> String {
     format!("scans/2026/animal-{number:04}.dcm")
-}
-
-const ALPHABET: &[u8; 32] = b"0123456789ABCDEFGHJKMNPQRSTVWXYZ";
-
-/// A ULID that grows with the number, which is its time.
-pub fn ulid(number: usize) -> String {
-    let random = (number as u64).wrapping_mul(11400714785074694797);
-    let bits = (1_790_000_000_000 + number as u128) << 80 | u128::from(random) << 16;
-    let digit = |place| char::from(ALPHABET[(bits >> (5 * place)) as usize % 32]);
-    (0..26).rev().map(digit).collect()
 }
 
 /// The value of a version, with what such a record usually tells of an object on tape.

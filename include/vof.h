@@ -1,7 +1,7 @@
 /* LTFS-VOF packs, read and written by proved functions: link libvof.a or libvof.so, which
    bin/build-library makes.
 
-   Every input has an answer: a result, or a refusal with a number from 1 to 20, or 22.
+   Every input has an answer: a result, or a refusal with a number from 1 to 22.
    docs/REFUSALS.md says what each number means and what to do about it.
 
    Each function but vof_xxh64 answers number + 256 * word, which vof_number and vof_word take
@@ -30,8 +30,13 @@ static inline unsigned vof_number(uint64_t answer) { return (unsigned)(answer % 
 /* What the answer tells beside it: a place or a count. */
 static inline uint64_t vof_word(uint64_t answer) { return answer / 256; }
 
-/* Tags of the records that can be read one by one: "bk", "vr" and "vd" as numbers. */
-enum { VOF_BLOCK = 0x626B, VOF_VERSION = 0x7672, VOF_VERSION_DELETE = 0x7664 };
+/* Tags of the records that can be read one by one: "bk", "vr", "vd" and "ol" as numbers. */
+enum {
+    VOF_BLOCK = 0x626B,
+    VOF_VERSION = 0x7672,
+    VOF_VERSION_DELETE = 0x7664,
+    VOF_PACK_LIST = 0x6F6C
+};
 
 enum {
     VOF_ULID_LENGTH = 26,
@@ -78,10 +83,11 @@ enum {
     VOF_RECORD_NUMBERS
 };
 
-/* Reads the record at a place of a pack. The rest of the pack is not looked at.
+/* Reads the record at a place of a pack: a block, a version, a version delete or a pack list. The
+   rest of the pack is not looked at.
    `told` then has VOF_RECORD_NUMBERS numbers, and `id` the identifier's composite text, whose
    length is one of them; both keep the rest.
-   Refusals: 20 where the place is not inside the pack; 1 to 8, with the place; 9 to 18 and 22;
+   Refusals: 20 where the place is not inside the pack; 1 to 8, with the place; 9 to 18, 21 and 22;
    19 where `told` or `id` is too short. VOF_COMPOSITE_LENGTH bytes suffice for any `id`. */
 uint64_t vof_record(const uint8_t *pack, size_t pack_length, size_t at, uint64_t *told,
                     size_t told_length, uint8_t *id, size_t id_length);
@@ -128,6 +134,62 @@ uint64_t vof_current(const uint8_t *pack, size_t pack_length, const uint8_t *buc
                      size_t bucket_length, const uint8_t *object, size_t object_length,
                      uint64_t *told, size_t told_length, uint8_t *ulid, size_t ulid_length);
 
+/* ---- pack lists
+
+   A pack list says which range of a version, the source range, is stored in which range of which
+   pack. The functions here read its primary part, which vof_record tells the place of. */
+
+/* What vof_pack_list tells of each entry. The pack's ULID has VOF_ULID_LENGTH bytes, and starts at
+   a place of the primary part; the pack range is counted in bytes of that pack. */
+enum {
+    VOF_PACK_LIST_ULID_START,
+    VOF_PACK_LIST_SOURCE_START,
+    VOF_PACK_LIST_SOURCE_LENGTH,
+    VOF_PACK_LIST_PACK_START,
+    VOF_PACK_LIST_PACK_LENGTH,
+    VOF_PACK_LIST_BLOCKS,
+    VOF_PACK_LIST_NUMBERS
+};
+
+/* Reads the primary part of a pack list.
+   Word: how many entries it has, at most one for each 36 of its bytes. `told` then has
+   VOF_PACK_LIST_NUMBERS numbers for each, in their order, and keeps the rest.
+   Refusals: 16 to 18, 21 and 22; 19 where `told` is too short for all entries. */
+uint64_t vof_pack_list(const uint8_t *primary, size_t primary_length, uint64_t *told,
+                       size_t told_length);
+
+/* Where a byte of the version stands. */
+enum {
+    /* In no entry; the other numbers are 0 too. */
+    VOF_FOUND_NOWHERE,
+    /* In an entry whose lengths place it in no block: the block is told as 0, and the stored range
+       is the entry's pack range. */
+    VOF_FOUND_ENTRY,
+    VOF_FOUND_BLOCK
+};
+
+/* What vof_find_block tells. Entries and blocks are counted from 0; the stored range is that of the
+   block's record, in bytes of the pack. */
+enum {
+    VOF_FIND_KIND,
+    VOF_FIND_ENTRY,
+    VOF_FIND_BLOCK,
+    VOF_FIND_ULID_START,
+    VOF_FIND_STORED_START,
+    VOF_FIND_STORED_LENGTH,
+    VOF_FIND_NUMBERS
+};
+
+/* Finds the block that holds a byte of the version, in the first entry whose source range has it.
+   The list has no key for the stride, the usual source length of a block: it is taken to be the
+   least with which the blocks of every entry hold its source range. Of a single entry whose last
+   block is short that is a guess: 25 bytes in 3 blocks are read as 9, 9 and 7, and may have been
+   10, 10 and 5.
+   `told` then has VOF_FIND_NUMBERS numbers, and keeps the rest.
+   Refusals: 16 to 18, 21 and 22; 19 where `told` is too short. */
+uint64_t vof_find_block(const uint8_t *primary, size_t primary_length, uint64_t byte,
+                        uint64_t *told, size_t told_length);
+
 /* ---- writing
 
    Each call is told how many bytes at the front of `buf` are the pack so far, 0 at first, and puts
@@ -148,6 +210,10 @@ uint64_t vof_write_version(uint8_t *buf, size_t buf_length, size_t used, const u
 /* A version delete with this primary part, which must read as one (16 to 18, 22). */
 uint64_t vof_write_delete(uint8_t *buf, size_t buf_length, size_t used, const uint8_t *primary,
                           size_t primary_length);
+
+/* A pack list with this primary part, which must read as one (16 to 18, 21, 22). */
+uint64_t vof_write_pack_list(uint8_t *buf, size_t buf_length, size_t used, const uint8_t *primary,
+                             size_t primary_length);
 
 /* A version delete made from the identifier of the version that goes, as composite text, and a
    delete ULID of its own. */

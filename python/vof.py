@@ -84,7 +84,8 @@ class Identifier(NamedTuple):
 
 
 class Record(NamedTuple):
-    """A block, a version or a version delete; its value and its parts are places of the pack."""
+    """A block, a version, a version delete or a pack list; its value and its parts are places of
+    the pack."""
 
     tag: bytes
     identifier: Identifier
@@ -114,9 +115,30 @@ class Version(NamedTuple):
     value: Place
 
 
+class PackEntry(NamedTuple):
+    """An entry of a pack list: a range of the version's data, and where it is stored in which pack,
+    in so many blocks."""
+
+    ulid: bytes
+    source: Place
+    stored: Place
+    blocks: int
+
+
+class Found(NamedTuple):
+    """Where a byte of a version stands: entry and block are numbers from 0, and stored is where the
+    block's record stands in the pack that has the ULID."""
+
+    entry: int
+    # None where the entry's lengths place the byte in no block; stored is then the entry's.
+    block: Optional[int]
+    ulid: bytes
+    stored: Place
+
+
 # ---- the shared object
 
-_BYTES, _SIZE = ctypes.c_void_p, ctypes.c_size_t
+_BYTES, _SIZE, _NUMBER = ctypes.c_void_p, ctypes.c_size_t, ctypes.c_uint64
 _NUMBERS = ctypes.POINTER(ctypes.c_uint64)
 _READ, _TOLD, _WRITE = [_BYTES, _SIZE], [_NUMBERS, _SIZE], [_BYTES, _SIZE, _SIZE]
 _FUNCTIONS = {
@@ -125,9 +147,12 @@ _FUNCTIONS = {
     "vof_record": _READ + [_SIZE] + _TOLD + [_BYTES, _SIZE],
     "vof_value": _READ + _TOLD,
     "vof_current": _READ * 3 + _TOLD + [_BYTES, _SIZE],
+    "vof_pack_list": _READ + _TOLD,
+    "vof_find_block": _READ + [_NUMBER] + _TOLD,
     "vof_write_block": _WRITE + _READ * 2,
     "vof_write_version": _WRITE + _READ,
     "vof_write_delete": _WRITE + _READ,
+    "vof_write_pack_list": _WRITE + _READ,
     "vof_write_delete_of": _WRITE + _READ * 2,
 }
 
@@ -249,8 +274,8 @@ def scan(pack):
 
 
 def record(pack, at):
-    """The Record at a place of a pack; the rest of the pack is not looked at. Refusals 1 to 18 and
-    22, and 20 for a place that is not inside the pack."""
+    """The Record at a place of a pack; the rest of the pack is not looked at. Refusals 1 to 18, 21
+    and 22, and 20 for a place that is not inside the pack."""
     told, composite = _numbers(16), ctypes.create_string_buffer(1115)
     _word(_library.vof_record(*_lent(pack), _size(at), told, 16, composite, len(composite)))
     # In the order of include/vof.h; so too below.
@@ -292,6 +317,39 @@ def current(pack, bucket, object):
     return Version(identifier, bool(is_delete_marker), start, Place(start + 32, value_length))
 
 
+def _ulid(primary, start):
+    return bytes(_view(primary)[start : start + 26])
+
+
+def pack_list(primary):
+    """A list with a PackEntry for each entry of a pack list, by its primary part. Refusals 16 to
+    18, 21 and 22."""
+    # No entry is shorter than 36 bytes.
+    told = _numbers(len(_view(primary)) // 36 * 6)
+    count = _word(_library.vof_pack_list(*_lent(primary), told, len(told)))
+    entries = zip(*[iter(told[: 6 * count])] * 6)
+    return [
+        PackEntry(_ulid(primary, at), Place(*ranges[:2]), Place(*ranges[2:]), blocks)
+        for at, *ranges, blocks in entries
+    ]
+
+
+def find_block(primary, byte):
+    """Where a byte of the version stands, by a pack list's primary part: a Found, in the first
+    entry that has the byte, or None. Refusals 16 to 18, 21 and 22.
+
+    The list has no key for the stride, the usual source length of a block: it is taken to be the
+    least with which the blocks of every entry hold its source range. Of a single entry whose last
+    block is short that is a guess: 25 bytes in 3 blocks are read as 9, 9 and 7, and may have been
+    10, 10 and 5."""
+    told = _numbers(6)
+    _word(_library.vof_find_block(*_lent(primary), _size(byte), told, 6))
+    kind, entry, block, at, *stored = told
+    if not kind:
+        return None
+    return Found(entry, block if kind == 2 else None, _ulid(primary, at), Place(*stored))
+
+
 # ---- writing
 
 
@@ -313,6 +371,11 @@ def write_version(buffer, used, primary):
 def write_delete(buffer, used, primary):
     """Writes a version delete with this primary part, which must read as one."""
     return _word(_library.vof_write_delete(*_buffer(buffer, used), *_apart(primary)))
+
+
+def write_pack_list(buffer, used, primary):
+    """Writes a pack list with this primary part, which must read as one."""
+    return _word(_library.vof_write_pack_list(*_buffer(buffer, used), *_apart(primary)))
 
 
 def write_delete_of(buffer, used, identifier, delete_ulid):

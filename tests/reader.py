@@ -112,12 +112,12 @@ def typed(type, found, number):
     return found.content
 
 
-def natural(found, absent):
+def natural(found, absent, number="11"):
     if found is None and absent is not None:
         return absent
-    n = typed("integer", found, "11")
+    n = typed("integer", found, number)
     if n < 0:
-        raise Refusal("11")
+        raise Refusal(number)
     return n
 
 
@@ -215,18 +215,26 @@ def texts(map):
     return [typed("text", under(map, key), "17") for key in NAMES]
 
 
+def names_under(map):
+    """The texts of an identifier, or its composite text, and the map that they stand in, if any."""
+    found = under(map, b"I")
+    if found is not None and found.type == "map":
+        return texts(found), [found]
+    return [typed("text", found, "17")], []
+
+
+def named(names):
+    return composite(*names) if len(names) == 1 else identifier(*names)
+
+
 def read_block(s):
     """Refusals 16, 17, 22 and 18, in this order, or the identifier; so too below."""
     map = read_part(s)
-    found = under(map, b"I")
-    if found is not None and found.type == "map":
-        names = texts(found)
-        once(map, b"I")
-        once(found, *NAMES)
-        return identifier(*names)
-    text = typed("text", found, "17")
+    names, inner = names_under(map)
     once(map, b"I")
-    return composite(text)
+    for found in inner:
+        once(found, *NAMES)
+    return named(names)
 
 
 def read_version(s):
@@ -247,6 +255,110 @@ def read_delete(s):
     if not is_ulid(by):
         raise Refusal("18")
     return id, by
+
+
+# ---- pack lists
+
+Range = namedtuple("Range", "start length")
+# at: where the pack's ULID starts in the primary part.
+Entry = namedtuple("Entry", "pack at source stored lengths deltas")
+# block: its number; None where the lengths of the entry's blocks place no byte.
+Found = namedtuple("Found", "number entry block stored")
+GREATEST = 2**64 - 1
+
+
+def read_range(found):
+    typed("map", found, "17")
+    return Range(*[natural(under(found, key), 0, "17") for key in (b"s", b"l")])
+
+
+def read_list(found):
+    """The items of a list, which may be absent."""
+    return [] if found is None else typed("list", found, "17")
+
+
+def read_entry(map):
+    typed("map", map, "17")
+    pack = under(map, b"p")
+    ulid = typed("text", pack, "17")
+    source, stored = read_range(under(map, b"o")), read_range(under(map, b"t"))
+    lengths = [natural(length, None, "17") for length in read_list(under(map, b"E"))]
+    deltas = [typed("integer", delta, "17") for delta in read_list(under(map, b"N"))]
+    return Entry(ulid, pack.end - len(ulid), source, stored, lengths, deltas)
+
+
+def is_filled(entry):
+    """Whether the ranges end within 64 bits, and the lengths listed within the pack's range."""
+    ranges = all(sum(range) <= GREATEST for range in (entry.source, entry.stored))
+    return ranges and sum(entry.lengths) <= entry.stored.length
+
+
+def read_pack_list(s):
+    """Refusal 21 too, behind 18: the identifier, and the entries."""
+    map = read_part(s)
+    names, inner = names_under(map)
+    maps = read_list(under(map, b"P"))
+    entries = [read_entry(entry) for entry in maps]
+    once(map, b"I", b"P")
+    for found in inner:
+        once(found, *NAMES)
+    for entry in maps:
+        once(entry, b"p", b"o", b"t", b"E", b"N")
+        for key in (b"o", b"t"):
+            once(under(entry, key), b"s", b"l")
+    id = named(names)
+    if not all(is_ulid(entry.pack) for entry in entries):
+        raise Refusal("18")
+    if not all(is_filled(entry) for entry in entries):
+        raise Refusal("21")
+    return id, entries
+
+
+def block_deltas(entry):
+    """The delta of each block, 0 where there is none; those past the last block play no part."""
+    count = len(entry.lengths) + 1
+    return (entry.deltas + [0] * count)[:count]
+
+
+def is_counted(entry):
+    deltas = block_deltas(entry)
+    gains, losses = sum(d for d in deltas if d > 0), sum(-d for d in deltas if d < 0)
+    return gains <= GREATEST and entry.source.length + losses <= GREATEST
+
+
+def stride(entries):
+    """The least number of at least 0 with which the blocks of every entry hold its source range."""
+    least = 0
+    for entry in filter(is_counted, entries):
+        deltas = block_deltas(entry)
+        # Rounded up.
+        least = max(least, -((sum(deltas) - entry.source.length) // len(deltas)))
+    return least
+
+
+def source_lengths(entry, stride):
+    """Of each block; None where one would be below 0, or a sum is above 64 bits."""
+    lengths = [stride + delta for delta in block_deltas(entry)[:-1]]
+    lengths.append(entry.source.length - sum(lengths))
+    return lengths if is_counted(entry) and min(lengths) >= 0 else None
+
+
+def find_block(s, byte):
+    """The refusals of a pack list, or where a byte of the version stands; None: in no entry."""
+    _, entries = read_pack_list(s)
+    for number, entry in enumerate(entries):
+        offset = byte - entry.source.start
+        if not 0 <= offset < entry.source.length:
+            continue
+        lengths = source_lengths(entry, stride(entries))
+        if lengths is None:
+            return Found(number, entry, None, entry.stored)
+        # The block with the byte is the last that begins at or before it and is not empty.
+        block = max(k for k, n in enumerate(lengths) if n and sum(lengths[:k]) <= offset)
+        last = entry.stored.length - sum(entry.lengths)
+        start = entry.stored.start + sum(entry.lengths[:block])
+        return Found(number, entry, block, Range(start, [*entry.lengths, last][block]))
+    return None
 
 
 # ---- records

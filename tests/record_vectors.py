@@ -14,15 +14,18 @@ sys.dont_write_bytecode = True
 import packs
 from packs import NIL, Raw, every_text, header, item, lists, pairs, record, sized, xxh64
 from reader import (
+    GREATEST,
     LIMIT,
     Refusal,
     composite,
+    find_block,
     identifier,
     is_ulid,
     outcome,
     read_block,
     read_content,
     read_delete,
+    read_pack_list,
     read_tlv,
     read_value,
     read_version,
@@ -65,9 +68,31 @@ def told_delete(s):
     return told_identifier(id) + " " + told_text("?", by)
 
 
+def told_entry(entry):
+    ranges = "o %d l %d t %d l %d" % (*entry.source, *entry.stored)
+    counts = "E %d N %d" % (len(entry.lengths), len(entry.deltas))
+    return " ".join([told_text("p", entry.pack), ranges, counts])
+
+
+def told_pack_list(s):
+    id, entries = read_pack_list(s)
+    return " ".join([told_identifier(id), "n %d" % len(entries), *map(told_entry, entries)])
+
+
+def told_found(s):
+    """A byte of the version, in 8 bytes, and a pack list's part: where the byte stands."""
+    found = find_block(s[8:], int.from_bytes(s[:8], "big"))
+    if found is None:
+        return "none"
+    block = "" if found.block is None else "# %d " % found.block
+    pack = told_text("p", found.entry.pack)
+    return "P %d %s%s @ %d l %d" % (found.number, block, pack, *found.stored)
+
+
 def told_record(s):
-    """A tag and a value."""
+    """A tag and a value. Of a pack list a record tells what it tells of a block."""
     kinds = {b"bk": told_block, b"vr": told_version, b"vd": told_delete}
+    kinds[b"ol"] = lambda s: told_identifier(read_pack_list(s)[0])
     tag, value = s[:2], read_value(s[2:])
     if tag not in kinds:
         raise Refusal("13")
@@ -168,8 +193,10 @@ READERS = {
     "at": told_at,
     "parts": told_parts,
     "walk": told_walk,
+    "pack_list": told_pack_list,
+    "find_block": told_found,
 }
-WRITERS = ["write_block", "write_version", "write_delete", "write_delete_of"]
+WRITERS = ["write_block", "write_version", "write_delete", "write_pack_list", "write_delete_of"]
 vectors = Vectors("record_vectors", [*READERS, "names", *WRITERS])
 
 
@@ -178,8 +205,8 @@ def vector(kind, name, data, wanted=None):
     found, refused = outcome(READERS[kind], data)
     right = not refused if wanted is None else found == str(wanted)
     assert right, "%s %s: wanted %s, found %s" % (kind, name, wanted or "a reading", found)
-    # The tag, the place and the number of a call are numbers of their own.
-    cut = {"record": 2, "at": 8, "walk": 8}.get(kind, 0)
+    # The tag, the place, the number of a call and the byte are numbers of their own.
+    cut = {"record": 2, "at": 8, "walk": 8, "find_block": 8}.get(kind, 0)
     more = number(int.from_bytes(data[:cut], "big")) if cut else b""
     found = told_refusal(found) if refused else found
     vectors.add(kind, kind + " " + name, data[cut:], more, found)
@@ -192,6 +219,12 @@ def at(name, place, pack, wanted=None):
 def parts_of(name, value, primary=b"", secondary=b""):
     """Of a refused value both parts are empty."""
     vector("parts", name, value, hashed("e", primary) + " " + hashed("s", secondary))
+
+
+def find(name, part, *wanted):
+    """wanted: bytes of the version, each with where it stands."""
+    for byte, found in wanted:
+        vector("find_block", "%s, byte %d" % (name, byte), number(byte) + part, found)
 
 
 def walk(name, pack, *wanted):
@@ -242,6 +275,11 @@ def write_version(name, part, *rest, **more):
 def write_delete(name, part, *rest, **more):
     made = part_record(b"vd", read_delete, part)
     return call("delete", name, made, part, b"", *rest, **more)
+
+
+def write_pack_list(name, part, *rest, **more):
+    made = part_record(b"ol", read_pack_list, part)
+    return call("pack_list", name, made, part, b"", *rest, **more)
 
 
 def write_delete_of(name, id, by, *rest, **more):
@@ -333,6 +371,13 @@ def herd_block():
     at("herd", 0, made, "@ 32 l 53 " + TOLD + " " + told)
 
 
+def printed_list():
+    """The primary part of the pack list of 001:584."""
+    ranges = {"o": {"s": 0, "l": 36}, "t": {"s": 0, "l": 303}}
+    entry = {"p": "7YF1QJW74QNR5BZ83NC8307YYM", **ranges, "E": [101, 101], "N": []}
+    return item({"I": "7YF1QJW74PNYV552JB3YPAJJX1:bucket/object", "P": [entry]})
+
+
 def document_001():
     """What the documents print, in the writer's form; 001:584 gives 101 bytes for each block."""
     pack = b""
@@ -344,6 +389,14 @@ def document_001():
     for k in range(3):
         at("block %d of 001:581-583" % (k + 1), 101 * k, pack)
     at("end of 001:581-583", 303, pack, 20)
+    told = "u 7YF1QJW74PNYV552JB3YPAJJX1 b bucket o object"
+    entry = " n 1 p 7YF1QJW74QNR5BZ83NC8307YYM o 0 l 36 t 0 l 303 E 2 N 0"
+    vector("pack_list", "001:584", printed_list(), told + entry)
+    pack += record(b"ol", item({"e": printed_list()}))
+    at("pack list of 001:584", 303, pack)
+    blocks = ["P 0 # %d p 7YF1QJW74QNR5BZ83NC8307YYM @ %d l 101" % (k, 101 * k) for k in range(3)]
+    of_blocks = [(n, blocks[n // 12]) for n in (0, 11, 12, 23, 24, 35)]
+    find("001:584", printed_list(), *of_blocks, (36, "none"), (GREATEST, "none"))
     part = item({"b": "bucket", "o": "object", "v": "7YF1QTCNCDN7FYSQFD2PFH2DCS"})
     wanted = "u 7YF1QTCNCDN7FYSQFD2PFH2DCS b bucket o object d 0"
     vector("version", "001:822", part, wanted)
@@ -648,7 +701,7 @@ def deletes():
     vector("delete", "d and I are passed over", item({**whole, "d": 5, "I": NIL}))
 
 
-BK, VR, VD = b"bk", b"vr", b"vd"
+BK, VR, VD, OL = b"bk", b"vr", b"vd", b"ol"
 
 
 def records():
@@ -668,7 +721,7 @@ def records():
     deep = item({"I": HERD, "x": lists(15)})
     read("header and part of depth 16", BK, item({"x": lists(15), "e": deep}))
     read("v, c of 0, wide", BK, item({"v": sized(0xCF, 8, 0), "c": sized(0xD3, 8, 0), "e": block}))
-    for tag in (BK, VR, VD, b"C!"):
+    for tag in (BK, VR, VD, OL, b"C!"):
         name = tag.decode()
         read("empty, " + name, tag, b"", 9)
         read("C1, " + name, tag, b"\xc1", 9)
@@ -676,10 +729,10 @@ def records():
         read("no header, " + name, tag, b"\x80", 11)
         read("value of case B, " + name, tag, b"data data data", 11)
         read("left over, " + name, tag, item({"e": b"", "v": 1, "c": 1}) + b"\x00", 12)
-    for tag in (b"C!", b"ol", b"BK", b"kb", b"rv", b"\x00\x00", b"\xff\xff"):
+    for tag in (b"C!", b"OL", b"lo", b"BK", b"kb", b"rv", b"\x00\x00", b"\xff\xff"):
         read("tag " + tag.hex(), tag, item({"e": block}), 13)
     read("13 before 14 and 15", b"C!", item({"e": b"", "v": 1, "c": 1, "z": 1}), 13)
-    for tag in (BK, VR, VD):
+    for tag in (BK, VR, VD, OL):
         name = tag.decode()
         read("v 1, " + name, tag, item({"e": block, "v": 1}), 14)
         read("v 2^64-1, " + name, tag, item({"e": block, "v": 2**64 - 1}), 14)
@@ -697,10 +750,434 @@ def records():
     read("a block's part in a version", VR, item({"e": block}), 17)
     read("a version's part in a delete", VD, item({"e": version}), 17)
     read("a delete's part in a version", VR, item({"e": delete}))
+    read("a block's part in a pack list", OL, item({"e": block}))
+    read("a version's part in a pack list", OL, item({"e": version}), 17)
+    read("a pack list's part in a block", BK, item({"e": pack_list(5)}))
+    read("pack list", OL, item({"e": pack_list(GOOD, GOOD)}))
+    secondary = {"s": [{"l": 2}], "e": pack_list(GOOD)}
+    read("pack list with a secondary part", OL, item(secondary) + b"ab")
+    read("entry no map, pack list", OL, item({"e": pack_list(GOOD, NIL)}), 17)
+    read("key twice, pack list", OL, item({"e": bytes(pairs(("I", HERD), ("I", HERD)))}), 22)
+    read("no pack ULID, pack list", OL, item({"e": pack_list(GOOD, {**GOOD, "p": ""})}), 18)
+    read("range too long, pack list", OL, item({"e": pack_list(GOOD, {**GOOD, "o": LONG})}), 21)
     read("no identifier, block", BK, item({"e": item({"I": "x"})}), 18)
     read("no bucket, version", VR, item({"e": item({**map, "b": ""})}), 18)
     read("no delete ULID, delete", VD, item({"e": item({**map, "???": ""})}), 18)
     read("text over the part", BK, item({"e": block, "x": HERD}))
+
+
+# ---- pack lists
+
+
+def range_of(start, length):
+    return {"s": start, "l": length}
+
+
+def entry(source, stored, E=None, N=None, pack=OTHER):
+    """An entry from two ranges, and the lists that it has; a delta may be below 0."""
+    made = {"p": pack, "o": range_of(*source), "t": range_of(*stored)}
+    if E is not None:
+        made["E"] = E
+    if N is not None:
+        made["N"] = [next(integers(n))[1] for n in N]
+    return made
+
+
+def pack_list(*entries):
+    return item({"I": HERD, "P": [*entries]})
+
+
+GOOD = entry((3, 7), (9, 5), [5], [2])
+LONG = range_of(GREATEST, 1)
+
+
+def in_block(number, block, start, length, pack=OTHER):
+    return "P %d # %d p %s @ %d l %d" % (number, block, pack, start, length)
+
+
+def in_entry(number, start, length, pack=OTHER):
+    return "P %d p %s @ %d l %d" % (number, pack, start, length)
+
+
+def pack_lists():
+    parts("pack_list", {"I": HERD, "P": [GOOD]})
+    identifier_maps("pack_list", lambda *given: pairs(("P", [GOOD]), ("I", pairs(*given))))
+    told = " p " + OTHER + " o 3 l 7 t 9 l 5 E 1 N 1"
+
+    def read(name, part, wanted=None):
+        vector("pack_list", name, part, wanted)
+
+    read("no P", item({"I": HERD}), TOLD + " n 0")
+    read("P empty", pack_list(), TOLD + " n 0")
+    read("one entry", pack_list(GOOD), TOLD + " n 1" + told)
+    both = told + told.replace(OTHER, ULID)
+    read("two entries", pack_list(GOOD, {**GOOD, "p": ULID}), TOLD + " n 2" + both)
+    read("16 entries", pack_list(*[GOOD] * 16), TOLD + " n 16" + told * 16)
+    read("P before I", item({"P": [GOOD], "I": HERD}), TOLD + " n 1" + told)
+    reverse = dict(reversed(GOOD.items()))
+    read("entry in reverse", pack_list(reverse), TOLD + " n 1" + told)
+    for name, x in WRONG.items():
+        read("U is " + name, item({"U": x, "I": HERD, "P": [GOOD]}), TOLD + " n 1" + told)
+    for key, said in [("E", "E 0 N 1"), ("N", "E 1 N 0")]:
+        less = {k: x for k, x in GOOD.items() if k != key}
+        read("no " + key, pack_list(less), TOLD + " n 1" + told.replace("E 1 N 1", said))
+        read(key + " empty", pack_list({**GOOD, key: []}))
+    for key, where in [("o", "o 3 l 7"), ("t", "t 9 l 5")]:
+        start, length = where.split()[1], where.split()[3]
+        for name, x, said in [
+            ("empty", {}, "0 l 0"),
+            ("without s", {"l": int(length)}, "0 l " + length),
+            ("without l", {"s": int(start)}, start + " l 0"),
+        ]:
+            made = {**GOOD, "E": [], key: x}
+            wanted = told.replace(where, key + " " + said).replace("E 1", "E 0")
+            read("%s %s" % (key, name), pack_list(made), TOLD + " n 1" + wanted)
+        read(key + " alone of depth 16", pack_list({**GOOD, key: {"x": lists(12), "l": 5}}))
+        read(key + " alone of depth 17", pack_list({**GOOD, key: {"x": lists(13), "l": 5}}), 16)
+    odd = [*ODD, ("", 1), ("x", 1), (Raw(b"\xa1\xff"), FLOAT)]
+    read("unknown keys in an entry", pack_list(pairs(*odd, *GOOD.items())), TOLD + " n 1" + told)
+    for key in "ot":
+        made = {**GOOD, key: pairs(*odd, *GOOD[key].items())}
+        read("unknown keys in " + key, pack_list(made), TOLD + " n 1" + told)
+
+
+def pack_lists_wrong():
+    def read(name, part, wanted):
+        vector("pack_list", name, part, wanted)
+
+    def types(key, made, right):
+        wrong("pack_list", key, made, right, 17)
+
+    types("I", lambda x: item({"I": x, "P": []}), ["text"])
+    read("I is text, no identifier", item({"I": "1"}), 18)
+    read("no I", item({"P": [GOOD]}), 17)
+    read("identifier in the part itself", item({"b": "herd", "o": "k", "v": ULID}), 17)
+    types("P", lambda x: item({"I": HERD, "P": x}), ["list"])
+    types("an entry", lambda x: pack_list(x), [])
+    types("a second entry", lambda x: pack_list(GOOD, x), [])
+    types("an entry before a good one", lambda x: pack_list(x, GOOD), [])
+    for key in "pot":
+        left = {k: x for k, x in GOOD.items() if k != key}
+        read("entry without " + key, pack_list(left), 17)
+        read("a second entry without " + key, pack_list(GOOD, left), 17)
+    for key, right in [("p", ["text"]), ("o", ["map"]), ("t", ["map"])]:
+        types("entry's " + key, lambda x: pack_list(GOOD, {**GOOD, key: x}), right)
+    for key in "EN":
+        types("entry's " + key, lambda x: pack_list({**GOOD, key: x}, GOOD), ["list"])
+    natural, integer = ["integer"], ["integer", "-1"]
+    for key, right in [("E", natural), ("N", integer)]:
+        types("the item in " + key, lambda x: pack_list({**GOOD, key: [x]}), right)
+        types("the last item in " + key, lambda x: pack_list({**GOOD, key: [1, 0, x]}), right)
+        types("the first item in " + key, lambda x: pack_list({**GOOD, key: [x, 0, 0, 0]}), right)
+    for key in "ot":
+        for inner in "sl":
+            made = lambda x: pack_list({**GOOD, key: {**GOOD[key], inner: x}})
+            types("%s in %s" % (inner, key), made, natural)
+    for name, ulid in ULIDS:
+        read("p " + name, pack_list({**GOOD, "p": ulid}), 18)
+    read("p broken in a second entry", pack_list(GOOD, {**GOOD, "p": ULID[:25]}), 18)
+    read("p broken before a good entry", pack_list({**GOOD, "p": ULID[:25]}, GOOD), 18)
+    read("p is composite", pack_list({**GOOD, "p": HERD}), 18)
+
+
+def pack_lists_unfilled():
+    def read(name, wanted, *entries):
+        vector("pack_list", name, pack_list(*entries), wanted)
+
+    half = 2**63
+    for key in "ot":
+        for start, length, wanted in [
+            (0, GREATEST, None),
+            (GREATEST, 0, None),
+            (GREATEST - 1, 1, None),
+            (half, half - 1, None),
+            (1, GREATEST, 21),
+            (GREATEST, 1, 21),
+            (half, half, 21),
+            (GREATEST, GREATEST, 21),
+        ]:
+            given = {**GOOD, "E": [], key: range_of(start, length)}
+            name = "%s from %d for %d" % (key, start, length)
+            read(name, wanted, given)
+            read(name + ", second entry", wanted, GOOD, given)
+            read(name + ", first entry", wanted, given, GOOD)
+    for length, listed, wanted in [
+        (5, [5], None),
+        (5, [4], None),
+        (5, [0, 5, 0, 0], None),
+        (5, [6], 21),
+        (5, [5, 1], 21),
+        (5, [6, 0], 21),
+        (5, [2, 2, 2], 21),
+        (0, [], None),
+        (0, [0, 0], None),
+        (0, [1], 21),
+        (5, [GREATEST, 1], 21),
+        (0, [GREATEST, 1], 21),
+        (5, [half, half], 21),
+        (5, [half, half, 5], 21),
+        (GREATEST, [GREATEST], None),
+        (GREATEST, [half, half - 1], None),
+        (GREATEST, [half, half], 21),
+        (GREATEST, [GREATEST, 1], 21),
+    ]:
+        given = {**GOOD, "t": range_of(0, length), "E": listed}
+        name = "lengths %s of %d" % (listed, length)
+        read(name, wanted, given)
+        read(name + ", second entry", wanted, GOOD, given)
+        read(name + ", first entry", wanted, given, GOOD)
+    read("ends at 2^64-1, lengths too", None, entry((0, 1), (GREATEST - 5, 5), [2, 3]))
+
+
+def pack_lists_in_order():
+    """17, 22, 18, 21, each over the whole list."""
+    untyped, unnamed = {**GOOD, "N": NIL}, {**GOOD, "p": ""}
+    unfilled = {**GOOD, "E": [6]}
+    twice = pairs(("t", {}), *GOOD.items())
+    faults = [(17, untyped), (22, twice), (18, unnamed), (21, unfilled)]
+    for k, (number, first) in enumerate(faults):
+        for other, second in faults[k + 1 :]:
+            name = "%d before %d, " % (number, other)
+            vector("pack_list", name + "in order", pack_list(first, second), number)
+            vector("pack_list", name + "in reverse", pack_list(second, first), number)
+    for number, fault in faults:
+        wanted = number if number in (17, 22) else 18
+        part = item({"I": "x", "P": [fault]})
+        vector("pack_list", "no identifier and %d" % number, part, wanted)
+        part = pairs(("I", HERD), ("I", HERD), ("P", [fault]))
+        vector("pack_list", "I twice and %d" % number, part, 17 if number == 17 else 22)
+        part = item({"I": 5, "P": [fault]})
+        vector("pack_list", "I is integer and %d" % number, part, 17)
+        part = pack_list(fault) + b"\x00"
+        vector("pack_list", "16 before %d" % number, part, 16)
+        find("%d" % number, pack_list(GOOD, fault), (0, number), (3, number))
+    inner = pairs(("v", ULID), *{"b": "herd", "o": "k", "v": ULID}.items())
+    part = item({"I": inner, "P": [untyped]})
+    vector("pack_list", "v in I twice, an entry wrong", part, 17)
+    find("16", pack_list(GOOD)[:-1], (3, 16))
+    find("no map", item([]), (3, 17))
+    for name, first, last, wanted in [
+        ("first wrong inside", [NIL], [GOOD], 22),
+        ("last wrong inside", [GOOD], [NIL], 17),
+        ("last broken", [GOOD], [unfilled], 22),
+        ("first with a key twice", [twice], [], 22),
+    ]:
+        part = pairs(("P", first), ("I", HERD), ("P", last))
+        vector("pack_list", "P twice, " + name, part, wanted)
+    for key, bad in [("o", LONG), ("t", {"s": NIL}), ("E", [99]), ("N", [NIL])]:
+        part = pack_list(pairs((key, bad), *GOOD.items()))
+        vector("pack_list", "%s twice, first wrong inside" % key, part, 22)
+
+
+def pack_list_widths():
+    def read(name, made, *more):
+        vector("pack_list", name, pack_list(made), *more)
+
+    told = TOLD + " n 1 p " + OTHER + " o %d l %d t %d l %d E 1 N 1"
+    for k in range(4):
+
+        def wide(map):
+            return {list(every_text(key.encode()))[k][1]: x for key, x in map.items()}
+
+        ranges = {key: wide(GOOD[key]) for key in "ot"}
+        name = list(every_text(b""))[k][0]
+        read("keys of the entry and its ranges in " + name, wide({**GOOD, **ranges}))
+    for form, x in every_text(OTHER.encode()):
+        read("p in " + form, {**GOOD, "p": x}, told % (3, 7, 9, 5))
+    for k in range(2):
+        form, width = "in %d bits" % (16 << k), 2 << k
+        content = b"".join(item(x) for pair in GOOD.items() for x in pair)
+        read("entry " + form, sized(0xDE + k, width, 5, content), told % (3, 7, 9, 5))
+        part = item({"I": HERD, "P": sized(0xDC + k, width, 2, item(GOOD) * 2)})
+        vector("pack_list", "P " + form, part)
+        read("E " + form, {**GOOD, "E": sized(0xDC + k, width, 1, b"\x05")}, told % (3, 7, 9, 5))
+        read("N " + form, {**GOOD, "N": sized(0xDC + k, width, 1, b"\xff")}, told % (3, 7, 9, 5))
+        source = sized(0xDE + k, width, 2, b"\xa1s\x03\xa1l\x07")
+        read("o " + form, {**GOOD, "o": source}, told % (3, 7, 9, 5))
+    for n in (0, 127, 255, 65535, LIMIT, 2**63 - 1, GREATEST):
+        for form, x in integers(n):
+            name = "%d as %s" % (n, form)
+            read("o l " + name, {**GOOD, "o": {"l": x}}, told % (0, n, 9, 5))
+            read("o s " + name, {**GOOD, "o": {"s": x}}, told % (n, 0, 9, 5))
+            stored = {"t": {"l": x}, "E": [x]}
+            read("t l and E " + name, {**GOOD, **stored}, told % (3, 7, 0, n))
+            # The last block has what is left, whatever its delta.
+            given = {**entry((0, 9), (1, 6)), "N": [x]}
+            find("N " + name, pack_list(given), (8, in_block(0, 0, 1, 6)))
+    for n in (-1, -32, -33, -129, -32769, -(2**31) - 1, 1 - 2**63):
+        for form, x in integers(n):
+            # The stride is -n, so that the first block has no byte.
+            given = {**entry((0, 9), (1, 6), [2]), "N": [x, next(integers(9 + n))[1]]}
+            name = "N %d as %s" % (n, form)
+            find(name, pack_list(given), *[(k, in_block(0, 1, 3, 4)) for k in (0, 8)])
+
+
+# 20 bytes in 2 blocks of 7 and 6 stored bytes.
+TWENTY = entry((0, 20), (50, 13), [7], pack=ULID)
+
+
+def in_three(start, *deltas):
+    """25 bytes from a byte on in 3 blocks of 6, 8 and no stored bytes."""
+    return entry((start, 25), (70, 14), [6, 8], deltas)
+
+
+def thirds(number, lengths):
+    """Where the bytes of such an entry from byte 100 on stand, by its blocks' source lengths."""
+    start, stored = 100, [(70, 6), (76, 8), (84, 0)]
+    for k, n in enumerate(lengths):
+        if n:
+            yield start, in_block(number, k, *stored[k])
+            yield start + n - 1, in_block(number, k, *stored[k])
+        start += n
+    yield start, "none"
+
+
+def strides():
+    def read(name, entries, lengths):
+        """lengths: of the blocks of the last entry; none where it is the answer by itself."""
+        number = len(entries) - 1
+        if lengths:
+            wanted = list(dict(thirds(number, lengths)).items())
+        else:
+            wanted = [(n, in_entry(number, 70, 14)) for n in (100, 112, 124)] + [(125, "none")]
+        find(name, pack_list(*entries), *wanted, (99, "none"))
+
+    half = 2**63
+    for name, deltas, lengths in [
+        ("no deltas", [], [9, 9, 7]),
+        ("deltas of 0", [0, 0, 0], [9, 9, 7]),
+        ("first added", [4], [11, 7, 7]),
+        ("second subtracted", [0, -3], [10, 7, 8]),
+        ("third subtracted", [0, 0, -4], [10, 10, 5]),
+        ("third added", [0, 0, 7], [6, 6, 13]),
+        ("each its own", [1, 2, -3], [10, 11, 4]),
+        ("past the last block", [0, 0, 0, -100, GREATEST, GREATEST], [9, 9, 7]),
+        ("deltas hold all bytes", [20, 5], [20, 5, 0]),
+        ("deltas hold more than all bytes", [20, 0, 100], [20, 0, 5]),
+        ("the first block empty", [-13], [0, 13, 12]),
+        ("the second block empty", [0, -13], [13, 0, 12]),
+        ("the first block below 0", [-30, 50], None),
+        ("the first block just below 0", [-14], None),
+        ("the second block below 0", [9, -9, 9], None),
+        ("the third block below 0", [20, 0, -20], None),
+        ("the third block below 0 by the second", [0, 26], None),
+        ("gains of 2^64-1", [0, 0, GREATEST], [0, 0, 25]),
+        ("gains of 2^64-1 before the last", [GREATEST], None),
+        ("gains of 2^64", [0, 1, GREATEST], None),
+        ("gains of 2^64 that a sum brings to 0", [half, 0, half], None),
+        ("losses up to 2^64-1", [-half, 0, -(half - 26)], None),
+        ("losses up to 2^64", [0, -(half - 25), -half], None),
+        ("losses and gains beyond 2^64", [GREATEST, -half, -half], None),
+    ]:
+        read("stride, " + name, [in_three(100, *deltas)], lengths)
+    # The stride is that of the whole list, wherever the entry stands that asks for it.
+    for length, lengths in [(17, [9, 9, 7]), (20, [10, 10, 5]), (24, [12, 12, 1]), (25, None)]:
+        name = "stride, beside %d bytes in 2 blocks" % length
+        read(name, [{**TWENTY, "o": range_of(0, length)}, in_three(100)], lengths)
+    longer = {**TWENTY, "o": range_of(0, 25)}
+    read("stride, of three entries", [TWENTY, longer, in_three(100, -5, -4)], [8, 9, 8])
+    for name, deltas in [
+        ("gains", [GREATEST, 1]),
+        ("losses", [-half, -half]),
+        ("bytes and losses", [-half, 25 - half]),
+    ]:
+        entries = [in_three(0, *deltas), in_three(100)]
+        read("stride, another entry's %s not counted" % name, entries, [9, 9, 7])
+    entries = [in_three(0, 0, 0, -(2**40)), in_three(100)]
+    read("stride, another entry's losses counted", entries, None)
+
+
+def blocks_found():
+    forty = in_three(20)
+    find(
+        "two entries",
+        pack_list(TWENTY, forty),
+        *[(n, in_block(0, 0, 50, 7, ULID)) for n in (0, 9)],
+        *[(n, in_block(0, 1, 57, 6, ULID)) for n in (10, 19)],
+        *[(n, in_block(1, 0, 70, 6)) for n in (20, 29)],
+        *[(n, in_block(1, 1, 76, 8)) for n in (30, 39)],
+        *[(n, in_block(1, 2, 84, 0)) for n in (40, 44)],
+        (45, "none"),
+    )
+    find(
+        "the later bytes first",
+        pack_list(forty, TWENTY),
+        (0, in_block(1, 0, 50, 7, ULID)),
+        (10, in_block(1, 1, 57, 6, ULID)),
+        (20, in_block(0, 0, 70, 6)),
+        (40, in_block(0, 2, 84, 0)),
+        (45, "none"),
+    )
+    nine, ten = (9, in_block(1, 0, 50, 7, ULID)), (19, in_block(0, 1, 57, 6, ULID))
+    find("in several", pack_list(TWENTY, in_three(10)), ten, (20, in_block(1, 1, 76, 8)))
+    reverse = pack_list(in_three(10), TWENTY)
+    find("in several, reverse", reverse, nine, (19, in_block(0, 0, 70, 6)))
+    find("in two of the same range", pack_list(TWENTY, {**TWENTY, "p": OTHER}), ten)
+    alone = pack_list(in_three(10, GREATEST, 1), TWENTY)
+    find("in several, the first alone", alone, nine, (19, in_entry(0, 70, 14)))
+    find("between entries", pack_list(TWENTY, in_three(30)), ten, (20, "none"), (29, "none"))
+    find("no P", item({"I": HERD}), (0, "none"), (GREATEST, "none"))
+    find("no entries", pack_list(), (0, "none"))
+    empty = {"p": OTHER, "o": {"s": 5}, "t": {}}
+    find("an entry without bytes", pack_list(empty), (4, "none"), (5, "none"), (6, "none"))
+    find("one before others", pack_list(empty, TWENTY), (5, in_block(1, 0, 50, 7, ULID)))
+    without = pack_list({"p": OTHER, "o": {"l": 5}, "t": {"s": 9}})
+    find("no stored bytes", without, *[(k, in_block(0, 0, 9, 0)) for k in (0, 4)], (5, "none"))
+    filled = entry((0, 4), (0, 7), [3, 4, 0])
+    find("lengths that fill the range", pack_list(filled), (3, in_block(0, 3, 7, 0)))
+    find("lengths of 0", pack_list(entry((0, 4), (9, 0), [0, 0, 0])), (2, in_block(0, 2, 9, 0)))
+    map = {"b": "herd", "o": "k", "v": ULID}
+    inside = item({"P": [TWENTY], "U": NIL, "I": map})
+    find("the identifier as a map", inside, (10, in_block(0, 1, 57, 6, ULID)))
+    many = entry((1000, 160), (5, 1700), [10] * 159)
+    front = [(1000 + k, in_block(0, k, 5 + 10 * k, 10)) for k in (0, 15, 16, 158)]
+    last = (1159, in_block(0, 159, 1595, 110))
+    find("160 blocks", pack_list(many), *front, last, (1160, "none"))
+
+
+def blocks_found_near_64_bits():
+    half, most = 2**63, GREATEST
+    whole = entry((0, most), (0, most))
+    in_whole = [(n, in_block(0, 0, 0, most)) for n in (0, most - 1)]
+    find("all bytes in one block", pack_list(whole), *in_whole, (most, "none"))
+    find(
+        "all bytes in two blocks",
+        pack_list(entry((0, most), (1, most - 1), [half])),
+        (half - 1, in_block(0, 0, 1, half)),
+        *[(n, in_block(0, 1, half + 1, half - 2)) for n in (half, most - 1)],
+    )
+    find(
+        "the last bytes",
+        pack_list(entry((most - 9, 9), (most - 5, 5), [2, 3])),
+        (most - 10, "none"),
+        (most - 9, in_block(0, 0, most - 5, 2)),
+        (most - 6, in_block(0, 1, most - 3, 3)),
+        (most - 1, in_block(0, 2, most, 0)),
+        (most, "none"),
+    )
+    # The stride of the one is too long for the other.
+    both = pack_list(whole, entry((most, 0), (0, 1)), entry((0, 2), (3, 4), [1]))
+    find("a long stride", both, (1, in_block(0, 0, 0, most)))
+    both = pack_list(entry((5, 2), (3, 4), [1]), whole)
+    find("a long stride, a short entry", both, (5, in_entry(0, 3, 4)), (7, in_block(1, 0, 0, most)))
+    # Deltas that bring the stride to 2^63, and others that take it away again, or not.
+    for name, lost in [
+        ("one", [-half]),
+        ("two", [-half, -(half - 1)]),
+        ("two in reverse", [-(half - 1), -half]),
+    ]:
+        long = entry((0, 0), (0, 0), [0] * (len(lost) - 1), lost)
+        for said, deltas, wanted in [
+            ("taken away", [-half], in_block(1, 1, 4, 3)),
+            ("taken away twice", [-half, 6 - half], in_block(1, 1, 4, 3)),
+            ("taken away twice, not counted", [-half, 5 - half], in_entry(1, 3, 4)),
+            ("all but one", [1 - half], in_block(1, 0, 3, 1)),
+            ("all but 6", [6 - half], in_entry(1, 3, 4)),
+            ("brought to 2^64+4", [half + 4], in_entry(1, 3, 4)),
+        ]:
+            part = pack_list(long, entry((0, 5), (3, 4), [1], deltas))
+            byte = 0 if said == "all but one" else 4
+            find("a stride of 2^63 by %s, %s" % (name, said), part, (byte, wanted))
 
 
 # Document 01's cases F to J: a byte of B changed, and the refusal.
@@ -755,7 +1232,7 @@ def places():
     at("9, empty value", 0, record(VR, b""), 9)
     at("10", 0, record(VR, lists(17)), 10)
     at("12", 0, record(VR, item({"e": b""}) + b"a"), 12)
-    at("13", 0, record(b"ol", item({"e": b""})), 13)
+    at("13", 0, record(b"C!", item({"e": b""})), 13)
     at("14", 0, record(VR, item({"e": b"", "v": 1})), 14)
     at("15", 0, record(VR, item({"e": b"", "z": 1})), 15)
     at("16 behind a version", second, version + record(VR, item({"e": b""})), 16)
@@ -764,6 +1241,8 @@ def places():
     at("22 of a header behind a version", second, version + header_twice, 22)
     part = bytes(pairs(*map.items(), *map.items()))
     at("22 of a part behind a version", second, version + record(VR, item({"e": part})), 22)
+    part = pack_list({**GOOD, "o": LONG})
+    at("21 behind a version", second, version + record(OL, item({"e": part})), 21)
     at("18 behind a version", second, version + record(BK, item({"e": item({"I": ""})})), 18)
     outer = record(BK, item({"s": [{"l": len(version)}], "e": item({"I": HERD})}) + version)
     at("a record in a block's data", len(outer) - len(version), outer)
@@ -805,6 +1284,52 @@ MAPS = [
     Map("block", "map under I", 17, lambda *given: pairs(("I", pairs(*given))), [*NAMES], NAMES),
     Map("version", "part", 17, pairs, [*NAMES], {**NAMES, "d": (True, False, NIL)}),
     Map("delete", "part", 17, pairs, [*NAMES, "???"], {**NAMES, "???": (OTHER, ULID, 5)}),
+    Map(
+        "pack_list",
+        "part",
+        17,
+        pairs,
+        ["I"],
+        {"I": (HERD, {"b": "b", "o": "o", "v": ULID}, 5), "P": ([GOOD], [], NIL)},
+    ),
+    Map(
+        "pack_list",
+        "map under I",
+        17,
+        lambda *given: pairs(("P", [GOOD]), ("I", pairs(*given))),
+        [*NAMES],
+        NAMES,
+    ),
+    Map(
+        "pack_list",
+        "entry",
+        17,
+        lambda *given: pack_list(GOOD, pairs(*given)),
+        ["p", "o", "t"],
+        {
+            "p": (OTHER, ULID, 5),
+            "o": ({"s": 3, "l": 7}, {}, []),
+            "t": ({"s": 9, "l": 5}, {"l": 5}, NIL),
+            "E": ([5], [], [NIL]),
+            "N": ([Raw(b"\xff")], [1], {}),
+        },
+    ),
+    Map(
+        "pack_list",
+        "source range",
+        17,
+        lambda *given: pack_list(GOOD, {**GOOD, "o": pairs(*given)}),
+        [],
+        {"s": (3, 4, NIL), "l": (7, 0, Raw(b"\xff"))},
+    ),
+    Map(
+        "pack_list",
+        "pack range",
+        17,
+        lambda *given: pack_list({**GOOD, "t": pairs(*given)}, GOOD),
+        [],
+        {"s": (3, 0, "3"), "l": (7, 8, [])},
+    ),
 ]
 READ = dict.fromkeys(key for map in MAPS for key in map.keys)
 # All of them in one map, twice each: nobody looks into it.
@@ -857,11 +1382,11 @@ def twice_in_order():
                 if other != key:
                     left = {k: y for k, y in right(map).items() if k != other}
                     read("no %s" % other, left, map.number)
-                if map.kind != "value":
+                if isinstance(right(map)[other], str):
                     read("%s broken" % other, {**right(map), other: ""}, 22)
             if map.kind == "value":
                 read("not filled", right(map), 22, cut=-1)
-                for tag in (BK, VR, VD, b"C!", b"ol"):
+                for tag in (BK, VR, VD, OL, b"C!"):
                     read(tag.decode(), right(map), 22, kind="record", front=tag)
 
 
@@ -894,7 +1419,7 @@ def twice_in_two_maps():
 
 
 def records_with_parts_twice():
-    for tag, map in zip((BK, VR, VD), [MAPS[2], *MAPS[4:]]):
+    for tag, map in zip((BK, VR, VD, OL), [MAPS[2], *MAPS[4:]]):
         part = bytes(map.made(*right(map).items(), *right(map).items()))
         name = "part with all keys twice, %s, " % tag.decode()
         for said, front, value, wanted in [
@@ -926,13 +1451,17 @@ def may_repeat():
 
 
 def written_twice():
-    for write, map, other in [(write_version, MAPS[4], "???"), (write_delete, MAPS[5], "d")]:
+    for write, map, others in [
+        (write_version, MAPS[4], ["???", "I", "x"]),
+        (write_delete, MAPS[5], ["d", "I", "x"]),
+        (write_pack_list, MAPS[6], ["U", "b", "x"]),
+    ]:
         given = right(map).items()
         for key, values in map.keys.items():
             for name, x in zip(("equal", "other", "wrong"), values):
                 write("%s twice, %s first" % (key, name), map.made((key, x), *given), 20)
             write("%s twice, no room" % key, map.made((key, values[0]), *given), 20, room=0)
-        for key in (other, "I", "x"):
+        for key in others:
             write("%s twice, not read" % key, map.made((key, TWICE), *given, (key, 5)))
 
 
@@ -1078,6 +1607,49 @@ def written_parts():
     write_delete("??? is bytes", item({**map, "???": OTHER.encode()}), 20)
 
 
+def written_pack_lists():
+    part = item({"I": HERD})
+    write_pack_list("least", part, 32 + 5 + 38)
+    write_pack_list("of 001:584", printed_list())
+    write_pack_list("I as a map", item({"I": {"b": "herd", "o": "k", "v": ULID}, "P": [GOOD]}))
+    write_pack_list("two entries", pack_list(GOOD, TWENTY))
+    write_pack_list("U and unknown keys", item({"U": NIL, "x": 1, "I": HERD, "P": []}))
+    write_pack_list("depth 16", pack_list({**GOOD, "x": lists(13)}))
+    wide = sized(0xDF, 4, 1, item(sized(0xDB, 4, 1, b"I")) + item(HERD))
+    write_pack_list("in wide forms", wide)
+    for n in (255, 256):
+        filler = item({"I": HERD, "x": b"p" * (n - len(part) - 4)})
+        assert len(filler) == n
+        write_pack_list("part of %d bytes" % n, filler, 32 + 3 + (2 if n < 256 else 3) + n)
+    for n, count in [(65535, 65573), (65536, 65576)]:
+        write_pack_list("part of %d bytes" % n, filled({"I": HERD}, n), count)
+    for name, broken in [
+        ("empty part", b""),
+        ("cut", part[:-1]),
+        ("a byte left over", part + b"\x00"),
+        ("depth 17", pack_list({**GOOD, "x": lists(14)})),
+        ("no map", item([HERD])),
+        ("a version's part", item({"b": "herd", "o": "k", "v": ULID})),
+        ("P is nil", item({"I": HERD, "P": NIL})),
+        ("entry is nil", pack_list(GOOD, NIL)),
+        ("entry without p", pack_list({"o": {}, "t": {}})),
+        ("s below 0", pack_list({**GOOD, "o": {"s": Raw(b"\xff")}})),
+        ("E below 0", pack_list({**GOOD, "E": [Raw(b"\xff")]})),
+        ("N is text", pack_list({**GOOD, "N": "1"})),
+        ("p twice", pack_list(pairs(("p", ULID), *GOOD.items()))),
+        ("s twice", pack_list({**GOOD, "o": pairs(("s", 1), ("s", 1))})),
+        ("I no identifier", item({"I": "x"})),
+        *[("ULID " + name, item({"I": ulid + ":herd/k"})) for name, ulid in BEYOND],
+        *[("p " + name, pack_list({**GOOD, "p": ulid})) for name, ulid in BEYOND],
+        ("o too long", pack_list({**GOOD, "o": LONG})),
+        ("t too long", pack_list(GOOD, {**GOOD, "t": range_of(1, GREATEST)})),
+        ("E too long", pack_list({**GOOD, "E": [6]})),
+    ]:
+        write_pack_list(name, broken, 20)
+    write_pack_list("empty part, no room", b"", 20, room=0)
+    write_pack_list("E too long, no room", pack_list({**GOOD, "E": [6]}), 20, room=0)
+
+
 def written_deletes():
     names = bytes.fromhex("A162 A4") + b"herd" + bytes.fromhex("A16F A1") + b"k"
     ulids = bytes.fromhex("A176 BA") + ULID.encode() + b"\xa3???\xba" + OTHER.encode()
@@ -1125,6 +1697,7 @@ def rooms():
         (write_block, (HELD, b"abc"), 85),
         (write_version, (version,), 78),
         (write_delete, (delete,), 109),
+        (write_pack_list, (item({"I": HERD}),), 75),
         (write_delete_of, (HELD, OTHER), 109),
     ]:
         for name, used, room, wanted in [
@@ -1163,7 +1736,9 @@ def written_packs():
     pack = write_delete_of("made behind them", id, OTHER, 504 + 116, pack=pack)
     write_version("too long behind them", part, 19, pack=pack, room=620 + 84)
     pack = write_version("again behind them", part, 620 + 85, pack=pack)
-    for place in (0, 101, 202, 303, 388, 504, 620):
+    end = 705 + 32 + 5 + len(printed_list())
+    pack = write_pack_list("of 001:584 behind them", printed_list(), end, pack=pack)
+    for place in (0, 101, 202, 303, 388, 504, 620, 705):
         at("written pack, %d" % place, place, pack)
 
 
@@ -1182,6 +1757,14 @@ def main():
         versions,
         deletes,
         records,
+        pack_lists,
+        pack_lists_wrong,
+        pack_lists_unfilled,
+        pack_lists_in_order,
+        pack_list_widths,
+        strides,
+        blocks_found,
+        blocks_found_near_64_bits,
         places,
         twice,
         twice_in_order,
@@ -1192,6 +1775,7 @@ def main():
         compared,
         written_blocks,
         written_parts,
+        written_pack_lists,
         written_deletes,
         written_twice,
         not_admitted,

@@ -2,6 +2,7 @@
 
 use crate::plain::lookup::{current, Version};
 use crate::plain::pack::read_pack;
+use crate::plain::pack_list::{self, find, read_pack_list, PackList};
 use crate::plain::record::{record_at, Record};
 use crate::plain::value::{read_value, Value};
 use crate::plain::{writer, Number};
@@ -68,20 +69,23 @@ pub enum Function {
     Value,
     Record,
     Current,
+    PackList,
+    FindBlock,
     WriteBlock,
     WriteVersion,
     WriteDelete,
+    WritePackList,
     WriteDeleteOf,
 }
 
 /// The numbers that each function can answer, 0 where it does not refuse.
-const NUMBERS: [(Function, &[usize]); 8] = [
+const NUMBERS: [(Function, &[usize]); 11] = [
     (Function::Scan, &[0, 1, 2, 3, 4, 5, 6, 7, 8, 19]),
     (Function::Value, &[0, 9, 10, 11, 12, 19, 22]),
     (
         Function::Record,
         &[
-            0, 1, 2, 3, 4, 5, 6, 7, 8, 9, 10, 11, 12, 13, 14, 15, 16, 17, 18, 19, 20, 22,
+            0, 1, 2, 3, 4, 5, 6, 7, 8, 9, 10, 11, 12, 13, 14, 15, 16, 17, 18, 19, 20, 21, 22,
         ],
     ),
     (
@@ -90,9 +94,12 @@ const NUMBERS: [(Function, &[usize]); 8] = [
             0, 1, 2, 3, 4, 5, 6, 7, 8, 9, 10, 11, 12, 14, 15, 16, 17, 18, 19, 20, 22,
         ],
     ),
+    (Function::PackList, &[0, 16, 17, 18, 19, 21, 22]),
+    (Function::FindBlock, &[0, 16, 17, 18, 19, 21, 22]),
     (Function::WriteBlock, &[0, 19, 20]),
     (Function::WriteVersion, &[0, 19, 20]),
     (Function::WriteDelete, &[0, 19, 20]),
+    (Function::WritePackList, &[0, 19, 20]),
     (Function::WriteDeleteOf, &[0, 19, 20]),
 ];
 
@@ -278,6 +285,49 @@ impl Compare {
         self.hold("the safe current version", &inputs, same);
     }
 
+    pub fn pack_list(&mut self, primary: &[u8]) {
+        self.inputs += 1;
+        let plain = read_pack_list(primary).map_err(alone);
+        let wanted = match &plain {
+            Err(refusal) => Wanted::refused(*refusal),
+            Ok(list) => Wanted {
+                answer: 256 * list.entries.len() as u64,
+                words: list.entries.iter().flat_map(pack_entry_words).collect(),
+                bytes: Vec::new(),
+            },
+        };
+        let exact = wanted.words.len();
+        let rooms = [exact, exact.saturating_sub(1), 0, exact + 1, exact + 7].map(|n| (n, 0));
+        let call = |words: &mut [u64], _: &mut [u8]| raw::pack_list(primary, words);
+        self.lent(Function::PackList, &[primary], &wanted, &rooms, call);
+        let mut entries = vec![vof::PackEntry::default(); exact / 6];
+        let safe = vof::pack_list(primary, &mut entries);
+        let same = safe == plain.map(|list| list.entries.len());
+        self.hold("the safe pack list", &[primary], same);
+    }
+
+    pub fn find_block(&mut self, primary: &[u8], byte: u64) {
+        self.inputs += 1;
+        let plain = read_pack_list(primary).map_err(alone);
+        let wanted = match &plain {
+            Err(refusal) => Wanted::refused(*refusal),
+            Ok(list) => Wanted {
+                answer: 0,
+                words: found_words(list, byte).to_vec(),
+                bytes: Vec::new(),
+            },
+        };
+        let rooms = [6, 5, 0, 9].map(|n| (n, 0));
+        let place = byte.to_be_bytes();
+        let inputs = [primary, &place];
+        let call = |words: &mut [u64], _: &mut [u8]| raw::find_block(primary, byte, words);
+        self.lent(Function::FindBlock, &inputs, &wanted, &rooms, call);
+        let safe = vof::find_block(primary, byte).map(|found| found.and_then(|it| it.block));
+        let block = |list| find(&list, byte).and_then(|found| found.block);
+        let same = safe == plain.map(|list| block(list).map(|number| number as u64));
+        self.hold("the safe block", &inputs, same);
+    }
+
     /// A call of the writer, with buffers around the length that is needed. None: it is 20.
     fn write(
         &mut self,
@@ -328,6 +378,12 @@ impl Compare {
         let record = writer::delete(primary).ok();
         let call = |buffer: &mut [u8]| raw::write_delete(buffer, used, primary);
         self.write(Function::WriteDelete, &[primary], used, record, call);
+    }
+
+    pub fn write_pack_list(&mut self, used: usize, primary: &[u8]) {
+        let record = writer::pack_list(primary).ok();
+        let call = |buffer: &mut [u8]| raw::write_pack_list(buffer, used, primary);
+        self.write(Function::WritePackList, &[primary], used, record, call);
     }
 
     pub fn write_delete_of(&mut self, used: usize, identifier: &[u8], delete_ulid: &[u8]) {
@@ -402,4 +458,29 @@ fn record_words(record: &Record) -> Vec<u64> {
 fn version_words(version: &Version) -> Vec<u64> {
     let (start, length) = (version.start as u64, version.value.len() as u64);
     vec![1, start, length, u64::from(version.deleted)]
+}
+
+fn pack_entry_words(entry: &pack_list::Entry) -> [u64; 6] {
+    [
+        entry.pack.start as u64,
+        entry.source.start,
+        entry.source.length,
+        entry.stored.start,
+        entry.stored.length,
+        entry.blocks() as u64,
+    ]
+}
+
+fn found_words(list: &PackList, byte: u64) -> [u64; 6] {
+    let Some(found) = find(list, byte) else {
+        return [0; 6];
+    };
+    [
+        if found.block.is_some() { 2 } else { 1 },
+        found.entry as u64,
+        found.block.unwrap_or(0) as u64,
+        list.entries[found.entry].pack.start as u64,
+        found.stored.start,
+        found.stored.length,
+    ]
 }

@@ -78,8 +78,10 @@ fn text_near(random: &mut Random, right: &[u8]) -> Tree {
 }
 
 /// Texts that are keys nowhere.
-const UNKNOWN: [&str; 6] = ["", "E", "ee", "??", "????", "\0"];
-const KNOWN: [&str; 11] = ["e", "s", "c", "z", "v", "l", "b", "o", "d", "I", "???"];
+const UNKNOWN: [&str; 6] = ["", "S", "ee", "??", "????", "\0"];
+const KNOWN: [&str; 16] = [
+    "e", "s", "c", "z", "v", "l", "b", "o", "d", "I", "???", "P", "p", "t", "E", "N",
+];
 
 /// Pairs in an order by chance, with unknown keys between, once or twice; seldom with a fault.
 fn any_map(random: &mut Random, mut pairs: Vec<(Tree, Tree)>) -> Tree {
@@ -129,16 +131,114 @@ fn identifier_pairs(random: &mut Random, identifier: &Identifier) -> Vec<(Tree, 
     ]
 }
 
+/// A number of 64 bits: most often small, else near a power of two or the greatest.
+pub fn edge(random: &mut Random) -> u64 {
+    let near = random.below(5) as u64;
+    match random.below(10) {
+        0 => u64::MAX - near,
+        1 => (1 << random.below(64)) + near,
+        _ => random.below(60) as u64,
+    }
+}
+
+/// An integer, seldom another item.
+fn integer(random: &mut Random, number: i128) -> Tree {
+    match random.fault_in(100) {
+        true => any_item(random, 1),
+        false => Tree::Integer(number),
+    }
+}
+
+/// A range of this length that ends within 64 bits, seldom past them. A 0 may be left out.
+fn range(random: &mut Random, length: u64) -> Tree {
+    let room = u64::MAX - length;
+    let start = match random.fault_in(40) {
+        true => room.saturating_add(1),
+        false => edge(random).min(room),
+    };
+    let mut pairs = Vec::new();
+    for (key, number) in [("s", start), ("l", length)] {
+        if number > 0 || random.once_in(2) {
+            pairs.push((text(key), integer(random, i128::from(number))));
+        }
+    }
+    any_map(random, pairs)
+}
+
+fn delta(random: &mut Random) -> i128 {
+    match random.below(6) {
+        0 => i128::from(edge(random)),
+        1 => -i128::from(edge(random).min(1 << 63)),
+        _ => random.below(9) as i128 - 4,
+    }
+}
+
+/// An entry of a pack list whose blocks are most often of this stride.
+fn entry(random: &mut Random, stride: usize) -> Tree {
+    let (count, ulid) = (random.of(&[0, 0, 1, 2, 3, 16]), ulid(random));
+    let source = match random.once_in(4) {
+        true => edge(random),
+        // The last block may be shorter.
+        false => (count * stride + random.below(stride + 1)) as u64,
+    };
+    let stored = edge(random);
+    let (mut left, mut lengths) = (stored, Vec::new());
+    for _ in 0..count {
+        let length = edge(random).min(left);
+        left -= length;
+        lengths.push(integer(random, i128::from(length)));
+    }
+    if random.fault_in(30) {
+        lengths.push(Tree::Integer(i128::from(left.saturating_add(1))));
+    }
+    let mut pairs = vec![
+        (text("p"), text_near(random, &ulid)),
+        (text("o"), range(random, source)),
+        (text("t"), range(random, stored)),
+    ];
+    if !lengths.is_empty() || random.once_in(2) {
+        pairs.push((text("E"), Tree::List(lengths)));
+    }
+    if random.once_in(2) {
+        let deltas = (0..random.below(count + 3)).map(|_| {
+            let number = delta(random);
+            integer(random, number)
+        });
+        pairs.push((text("N"), Tree::List(deltas.collect())));
+    }
+    any_map(random, pairs)
+}
+
+/// A pack list's `P`, and its `U`, which is passed over.
+fn entries(random: &mut Random) -> Vec<(Tree, Tree)> {
+    let stride = match random.once_in(4) {
+        true => edge(random) as usize >> 8,
+        false => random.below(30),
+    };
+    let mut pairs = Vec::new();
+    if !random.once_in(10) {
+        let list = (0..random.below(4)).map(|_| entry(random, stride));
+        pairs.push((text("P"), Tree::List(list.collect())));
+    }
+    if random.once_in(5) {
+        pairs.push((text("U"), any_item(random, 2)));
+    }
+    pairs
+}
+
 /// A primary part for this tag.
 pub fn primary(random: &mut Random, tag: &[u8; 2], identifier: &Identifier) -> Vec<u8> {
     let mut pairs = identifier_pairs(random, identifier);
     match tag {
-        b"bk" => {
+        b"bk" | b"ol" => {
             let shape = match random.below(2) {
                 0 => text_near(random, &identifier.to_text()),
                 _ => any_map(random, pairs),
             };
             pairs = vec![(text("I"), shape)];
+            if tag == b"ol" {
+                pairs.extend(entries(random));
+            }
         }
         b"vd" => {
             let by = ulid(random);
@@ -210,11 +310,12 @@ pub fn value(random: &mut Random, primary: Vec<u8>) -> Vec<u8> {
 }
 
 pub fn tag(random: &mut Random) -> [u8; 2] {
-    match random.below(12) {
+    match random.below(13) {
         0 => [random.byte(), random.byte()],
         1..=3 => *b"bk",
         4..=8 => *b"vr",
-        _ => *b"vd",
+        9..=11 => *b"vd",
+        _ => *b"ol",
     }
 }
 

@@ -3,3 +3,5 @@ mod Scans
 mod Parts
 mod Places
 mod Records
+mod PackLists
+mod ListWords

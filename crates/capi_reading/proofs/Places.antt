@@ -13,7 +13,9 @@ use Rattle.tlv.specs.Found.{Found, end, found, fault, step}
 use Rattle.identifier.specs.Identity.{Identity, isValid}
 use Rattle.primary.specs.Parts as primary
 use Rattle.primary.specs.Exactly.{block-names, version-names, delete-names}
-use Rattle.records.specs.Record.{blockTag, versionTag, block, version, versionDelete, Contents, ofBlock, ofVersion, ofVersionDelete, contents, Record, primaryIn, readRecord, there, refusedAt, alone, atPlace, valueAt, byStep, recordAt}
+use Rattle.pack_list.specs.Lists as list
+use Rattle.pack_list.specs.Reading.{list-exactly}
+use Rattle.records.specs.Record.{blockTag, versionTag, versionDeleteTag, block, version, versionDelete, packList, Contents, ofBlock, ofVersion, ofVersionDelete, ofPackList, contents, Record, primaryIn, readRecord, there, refusedAt, alone, atPlace, valueAt, byStep, recordAt}
 use Rattle.records.specs.Laws.{read-as}
 
 -- ---- its identifier keeps the rules
@@ -37,14 +39,22 @@ module _ (part : List ℕ) (c : Contents) where
       subst (λ d. isValid (d .identifier) ≡ true) is (delete-names part v e .rules)
   delete-valid (refused n) e f = absurd-numbers (cc)
 
+  list-valid : (a : Answer list.PackList) → list.packList part ≡ a → ofPackList a ≡ result c → isValid (c .identifier) ≡ true
+  list-valid (result l) e f =
+      let is : record { identifier = l .identifier; kind = packList (l .entries) } ≡ c = cc in
+      subst (λ d. isValid (d .identifier) ≡ true) is (list-exactly part l .0 e .names .rules)
+  list-valid (refused n) e f = absurd-numbers (cc)
+
   contents-valid : (tag : ℕ) → contents tag part ≡ result c → isValid (c .identifier) ≡ true
   unfolding contents
-  contents-valid tag e = by (eqb tag blockTag) (eqb tag versionTag) e
+  contents-valid tag e = by (eqb tag blockTag) (eqb tag versionTag) (eqb tag versionDeleteTag) e
     where
-      by : (b v : Bool) → cond b (ofBlock (primary.block part)) (cond v (ofVersion (primary.version part)) (ofVersionDelete (primary.versionDelete part))) ≡ result c → isValid (c .identifier) ≡ true
-      by true v f = block-valid (primary.block part) refl f
-      by false true f = version-valid (primary.version part) refl f
-      by false false f = delete-valid (primary.versionDelete part) refl f
+      by : (b v d : Bool) → cond b (ofBlock (primary.block part)) (cond v (ofVersion (primary.version part))
+          (cond d (ofVersionDelete (primary.versionDelete part)) (ofPackList (list.packList part)))) ≡ result c → isValid (c .identifier) ≡ true
+      by true v d f = block-valid (primary.block part) refl f
+      by false true d f = version-valid (primary.version part) refl f
+      by false false true f = delete-valid (primary.versionDelete part) refl f
+      by false false false f = list-valid (list.packList part) refl f
 
 -- ---- what stands at the place
 

@@ -24,10 +24,10 @@ use Rattle.identifier.specs.declared.Written.the-variants.{Bytes, Inadmissible,
 use Rattle.identifier.proofs.Written.{the-type}
 use Rattle.value.specs.declared.Told.{Told}
 use Rattle.primary.specs.Answers.{textsIn}
-use Rattle.records.specs.Record.{versionDelete, Record, AtPlace, there, refusedAt, alone, recordAt, toldFrom, recordFrom, thereFrom}
+use Rattle.records.specs.Record.{versionDelete, Record, primaryIn, AtPlace, there, refusedAt, alone, recordAt, toldFrom, recordFrom, thereFrom}
 use Rattle.records.specs.Answers.{kindIn, contentsIn, recordIn, placeOf, PlaceInside}
 use Rattle.records.specs.declared.Kind as declared-kind
-use Rattle.records.specs.declared.Kind.the-variants.{Block, Version, VersionDelete}
+use Rattle.records.specs.declared.Kind.the-variants.{Block, Version, VersionDelete, PackList}
 use Rattle.records.specs.declared.Record as declared-record
 use Rattle.records.specs.declared.AtPlace as declared-place
 use Rattle.records.specs.declared.AtPlace.the-variants as place-answer
@@ -122,12 +122,15 @@ module _ (i : Identity) (bytes : List ℕ) (valid : isValid i ≡ true) (w : Wri
 -- ---- the words of a kind, whose delete identifier lies within a place of the pack
 
 module _ (pack : List ℕ) (p : Place) (inside : Inside pack p) where
-  words-told : (k : declared-kind.Kind) → ((id : Place) → k ≡ VersionDelete id → Within p id) → kindWords (kindTold k .start) (kindIn pack k) ≡ kindTold k
+  words-told : (k : declared-kind.Kind) → ((id : Place) → k ≡ VersionDelete id → Within p id)
+      → kindWords (kindTold k .start) (kindIn pack (partAt pack p) k) ≡ kindTold k
   words-told Block w = refl
   words-told (Version deleted) w = refl
   words-told (VersionDelete id) w = rw (length-part pack id (within-inside pack inside (w id refl)))
+  words-told PackList w = refl
 
-  delete-text : (k : declared-kind.Kind) → ((id : Place) → k ≡ VersionDelete id → Within p id) → (text : List ℕ) → kindIn pack k ≡ versionDelete text
+  delete-text : (k : declared-kind.Kind) → ((id : Place) → k ≡ VersionDelete id → Within p id) → (text : List ℕ)
+      → kindIn pack (partAt pack p) k ≡ versionDelete text
       → TextAt pack text (p .start) (kindTold k .start) (p .start + p .len)
   delete-text Block w text e = absurd-numbers (cc)
   delete-text (Version deleted) w text e = absurd-numbers (cc)
@@ -136,6 +139,7 @@ module _ (pack : List ℕ) (p : Place) (inside : Inside pack p) where
       let within = w id refl in
       let long = length-part pack id (within-inside pack inside within) in
       subst (λ u. TextAt pack u (p .start) (id .start) (p .start + p .len)) is (record { after = within .after; inside = omega arith; is = rw long })
+  delete-text PackList w text e = absurd-numbers (cc)
 
 -- ---- a record that was read at a place
 
@@ -146,7 +150,7 @@ is-record pack at a told inside r value is =
 
 module _ (pack : List ℕ) (at : ℕ) (value : Place) (r : declared-record.Record) (h : IsRecord pack at value r) where
   abbrev read : Told → Record
-  read t = record { told = t; contents = contentsIn pack (r .identifier) (r .kind) }
+  read t = record { told = t; contents = contentsIn pack (primaryIn pack (r .told)) (r .identifier) (r .kind) }
 
   -- what the value tells by itself
   pub record Here : Type 0 where
@@ -164,7 +168,7 @@ module _ (pack : List ℕ) (at : ℕ) (value : Place) (r : declared-record.Recor
       by (there v x) e f =
           let same-value : partAt pack value ≡ v = cc in
           let same : recordIn pack r ≡ recordFrom (at + 32) x = cc in
-          let same-contents : contentsIn pack (r .identifier) (r .kind) ≡ x .contents = ap (λ (y : Record). y .contents) same in
+          let same-contents : contentsIn pack (primaryIn pack (r .told)) (r .identifier) (r .kind) ≡ x .contents = ap (λ (y : Record). y .contents) same in
           record { told = x .told; is = rw (same-value, same-contents) e; from = rw start-is (ap (λ (y : Record). y .told) same) }
       by (refusedAt n place) e f = absurd-numbers (cc)
       by (alone n) e f = absurd-numbers (cc)

@@ -1,3 +1,4 @@
 pub mod Values
 pub mod Record
 pub mod Scan
+pub mod PackLists

@@ -11,7 +11,7 @@ use Rattle.slices.specs.declared.Place.{Place}
 use Rattle.refusals.specs.Limit.{packLimit}
 use Rattle.identifier.specs.Composite.{compositeText}
 use Rattle.value.specs.declared.Told.{Told}
-use Rattle.records.specs.Record.{blockTag, versionTag, versionDeleteTag, Kind, block, version, versionDelete, Record, AtPlace, there, refusedAt, alone, recordAt, toldFrom, thereFrom}
+use Rattle.records.specs.Record.{blockTag, versionTag, versionDeleteTag, packListTag, Kind, block, version, versionDelete, packList, Record, AtPlace, there, refusedAt, alone, recordAt, toldFrom, thereFrom}
 use Rattle.records.specs.Answers.{recordIn, PlacesInside, IsValue}
 use Rattle.records.specs.declared.Kind as declared-kind
 use Rattle.records.specs.declared.Kind.the-variants as kind-answer
@@ -42,6 +42,7 @@ abbrev pub kindWords : ℕ → Kind → KindWords
 kindWords place block = record { tag = blockTag; deleted = 0; start = 0; len = 0 }
 kindWords place (version deleted) = record { tag = versionTag; deleted = flag deleted; start = 0; len = 0 }
 kindWords place (versionDelete id) = record { tag = versionDeleteTag; deleted = 0; start = place; len = length id }
+kindWords place (packList entries) = record { tag = packListTag; deleted = 0; start = 0; len = 0 }
 
 -- tag; the value; its parts as `vof_value` tells them, without `v`; delete flag; length of the composite text; delete identifier
 unfoldable pub recordWords : (start len : ℕ) → Told → KindWords → (text : ℕ) → List ℕ
@@ -89,6 +90,7 @@ abbrev pub kindTold : declared-kind.Kind → KindWords
 kindTold kind-answer.Block = record { tag = blockTag; deleted = 0; start = 0; len = 0 }
 kindTold (kind-answer.Version deleted) = record { tag = versionTag; deleted = flag deleted; start = 0; len = 0 }
 kindTold (kind-answer.VersionDelete id) = record { tag = versionDeleteTag; deleted = 0; start = id .start; len = id .len }
+kindTold kind-answer.PackList = record { tag = packListTag; deleted = 0; start = 0; len = 0 }
 
 -- a record that was read at a place, with its value at another
 pub record IsRecord (pack : List ℕ) (at : ℕ) (v : Place) (r : declared-record.Record) : Type 0 where

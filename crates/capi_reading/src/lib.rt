@@ -1,4 +1,5 @@
 // For C, Rust and Python: a hash, a pack scanned, one record read, a value taken apart.
+mod pack_lists;
 mod record;
 mod scan;
 mod values;

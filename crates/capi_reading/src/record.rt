@@ -47,6 +47,12 @@ fn kind_words(kind: Kind) -> KindWords
             start: id.start as u64,
             len: id.len as u64,
         },
+        Kind::PackList => KindWords {
+            tag: records::PACK_LIST as u64,
+            deleted: 0,
+            start: 0,
+            len: 0,
+        },
     }
 }
 

@@ -5,7 +5,7 @@ ghost use mathlib.Core.Option.{some};
 ghost use lib.ListN.{length};
 ghost use Rattle.refusals.specs.Limit.{packLimit};
 ghost use Rattle.identifier.specs.Composite.{identityIn};
-ghost use Rattle.writer.specs.Writing.{block, version, versionDelete, deletion, ofIdentity, answerOf, written, bufferAfter};
+ghost use Rattle.writer.specs.Writing.{block, version, versionDelete, packList, deletion, ofIdentity, answerOf, written, bufferAfter};
 ghost use Rattle.capi_writing.specs.Write.{writtenWord, CountWithin};
 use writer::Written;
 
@@ -50,6 +50,15 @@ pub extern "C" fn vof_write_delete(buf: &mut [u8], used: usize, primary: &[u8]) 
     ensures buffer { λ _. ⌜ now (buf .exit) ≡ bufferAfter packLimit used (some (versionDelete (now (primary .entry)))) (now (buf .entry)) ⌝ }
 {
     word_of(writer::write_delete(buf, used, primary))
+}
+
+// A pack list, from its primary part.
+#[no_mangle]
+pub extern "C" fn vof_write_pack_list(buf: &mut [u8], used: usize, primary: &[u8]) -> u64
+    ensures answer { λ r. ⌜ r ≡ writtenWord (written packLimit (length (now (buf .entry))) used (some (packList (now (primary .entry))))) ⌝ }
+    ensures buffer { λ _. ⌜ now (buf .exit) ≡ bufferAfter packLimit used (some (packList (now (primary .entry)))) (now (buf .entry)) ⌝ }
+{
+    word_of(writer::write_pack_list(buf, used, primary))
 }
 
 // A version delete, made from the composite text of the version that goes and a delete ULID.

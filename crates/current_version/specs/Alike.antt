@@ -111,7 +111,7 @@ module _ (Number Place : ℕ → ℕ → Type 0) (Bytes : List ℕ → List ℕ 
       by others z = z
       by (unreadables n) z = both-refused n (x .start)
 
-  answers-alike : {ps qs : List Placed} → Each (AlikePlaced Number Place Bytes) ps qs → (bucket object : List ℕ)
+  pub answers-alike : {ps qs : List Placed} → Each (AlikePlaced Number Place Bytes) ps qs → (bucket object : List ℕ)
       → AlikeAnswers Number Place Bytes (answerIn ps bucket object) (answerIn qs bucket object)
   unfolding answerIn current
   answers-alike {ps} {qs} xs bucket object =

@@ -26,6 +26,7 @@ abbrev pub roleBy : Identity → records.Kind → Role
 roleBy i records.block = other
 roleBy i (records.version deleteFlag) = version i deleteFlag
 roleBy i (records.versionDelete deleteId) = deletion i
+roleBy i (records.packList entries) = other
 
 abbrev pub roleOf : refusals.Answer records.Record → Role
 roleOf (refusals.result r) = roleBy (r .contents .identifier) (r .contents .kind)

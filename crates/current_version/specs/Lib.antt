@@ -7,5 +7,6 @@ pub mod Deletion
 pub mod Order
 pub mod Bytes
 pub mod Alike
+pub mod PassedOver
 pub mod Examples
 pub mod TellsApart

@@ -67,6 +67,7 @@ read-first limit tag value p next h = go (isLookedAt tag) (readRecord limit tag 
     by i records.block = refl
     by i (records.version f) = refl
     by i (records.versionDelete d) = refl
+    by i (records.packList l) = refl
 
     go : (t : Bool) (a : refusals.Answer records.Record) → (t ≡ true → isResult a ≡ true) → unreadableFirst p (cond t (roleOf a) other) next ≡ next
     go true (refusals.result r) h = by (r .contents .identifier) (r .contents .kind)

@@ -12,9 +12,14 @@ use Rattle.identifier.specs.Identity.{Identity, isValid}
 use Rattle.primary.specs.Parts as primary
 use Rattle.primary.specs.Exactly.{version-names}
 use Rattle.records.specs.Record as records
-use Rattle.records.specs.Record.{versionTag, versionDeleteTag, readRecord, Contents, contents, ofVersion, ofVersionDelete, primaryIn}
+use Rattle.records.specs.Record.{versionTag, versionDeleteTag, packListTag, readRecord, Contents, contents, ofVersion, ofVersionDelete, primaryIn}
 use Rattle.records.specs.Laws.{read-as}
 use Rattle.current_version.specs.Current.{Role, version, deletion, other, unreadable, roleBy, roleOf, isLookedAt, role, placedBy, Version, versionBy, versionOf, deletes}
+
+-- a pack list is passed over
+pub pack-list-not-looked-at : isLookedAt packListTag ≡ false
+unfolding isLookedAt
+pack-list-not-looked-at = refl
 
 -- a `vd` that is read names its version identifier
 pub delete-role : (limit : ℕ) (value : List ℕ) (x : records.Record) → readRecord limit versionDeleteTag value ≡ refusals.result x

@@ -21,7 +21,7 @@ use Rattle.current_version.specs.Current.{Answer, refusedAt, isName, lookup}
 use Rattle.current_version.specs.Packs.{ReadablePack, SameAnswer}
 use Rattle.lookup.specs.Answers.{foundOf, FoundInside}
 use Rattle.lookup.specs.declared.Found.{Found}
-use Rattle.demands.specs.Deletion.{TakesOut, deletion-takes-out}
+use Rattle.demands_laws.specs.Deletion.{TakesOut, deletion-takes-out}
 use Rattle.demands.specs.Answers.{counted, ofFront, answersOf, lookedUp, WritesFor, CountInside, DeletionInside, DeletionHolds}
 use Rattle.demands.specs.declared.Deletion.{Deletion}
 use Rattle.demands.specs.declared.Deletion.the-variants.{LookedUp, Short, Inadmissible}

@@ -21,8 +21,8 @@ use Rattle.records_model.specs.Record as held
 use Rattle.writer.specs.Writing.{Item, valueOf, answerOf, written, bufferAfter}
 use Rattle.writer.specs.declared.Written.{Written}
 use Rattle.writer_laws.specs.Meaning.{heldOf}
-use Rattle.demands.specs.Added.{value-last, added-means, added-extends}
-use Rattle.demands.specs.Answers.{ofFront, readBackOf, readBehind, ReadInside, Tells, IsAdded, ReadBackHolds}
+use Rattle.writer_laws.specs.Added.{Tells, IsAdded, value-last, added-means, added-extends}
+use Rattle.demands.specs.Answers.{ofFront, readBackOf, readBehind, ReadInside, ReadBackHolds}
 use Rattle.demands.specs.declared.ReadBack.{ReadBack}
 use Rattle.demands.specs.declared.ReadBack.the-variants.{Read, Short, Inadmissible}
 use Rattle.demands.proofs.Calls.{OfFront, of-front, within}

@@ -2,33 +2,26 @@
 use Prim.Native.Nat.{ℕ, _+_, _≤_}
 use mathlib.Core.Bool.{Bool, true, cond}
 use mathlib.Core.List.{List}
-use mathlib.Core.Option.{Option, some}
+use mathlib.Core.Option.{Option}
 use mathlib.Core.Path.{_≡_}
 use lib.ListN.{length, take}
-use Rattle.slices.specs.Places.{partAt}
-use Rattle.slices.specs.declared.Place.{Place}
 use Rattle.refusals.specs.Answers as refusals
 use Rattle.refusals.specs.Limit.{packLimit}
 use Rattle.refusals.specs.Answers.{result}
-use Rattle.pack.specs.Reading.{whole, reading}
 use Rattle.records.specs.Record.{AtPlace, recordAt, thereFrom}
-use Rattle.records.specs.Answers.{recordIn, placeOf, PlaceInside}
-use Rattle.records.specs.declared.Record as declared-record
+use Rattle.records.specs.Answers.{placeOf, PlaceInside}
 use Rattle.records.specs.declared.AtPlace as declared-place
-use Rattle.records.specs.declared.AtPlace.the-variants as place-answer
-use Rattle.records_model.specs.Record as held
-use Rattle.writer.specs.Writing.{Item, valueOf, answerOf, written, bufferAfter}
+use Rattle.writer.specs.Writing.{Item, answerOf, written, bufferAfter}
 use Rattle.writer.specs.declared.Written.{Written}
 use Rattle.writer.specs.declared.Written.the-variants.{Count}
-use Rattle.writer_laws.specs.Meaning.{heldOf}
+use Rattle.writer_laws.specs.Added.{IsAdded}
 use Rattle.current_version.specs.Current.{Answer, refusedAt, isName, lookup}
 use Rattle.current_version.specs.Packs.{ReadablePack, SameAnswer}
 use Rattle.current_version.specs.Bytes.{SameRecordsIn, OneValueIn}
 use Rattle.lookup.specs.Answers.{foundOf, FoundInside}
 use Rattle.lookup.specs.declared.Found.{Found}
-use Rattle.demands.specs.Added.{Extends}
-use Rattle.demands.specs.Deletion.{TakesOut}
-use Rattle.demands.specs.Sites.{AlikePacks, AlikeLookups}
+use Rattle.demands_laws.specs.Deletion.{TakesOut}
+use Rattle.demands_laws.specs.Sites.{AlikePacks, AlikeLookups}
 use Rattle.demands.specs.declared.Deletion.{Deletion}
 use Rattle.demands.specs.declared.Deletion.the-variants as deletion-answer
 use Rattle.demands.specs.declared.Deletion.the-variants.{LookedUp}
@@ -123,22 +116,6 @@ readBehind used s = thereFrom (used + 32) (recordAt packLimit s used)
 
 pub record ReadInside (used : ℕ) (buf : List ℕ) (r : ReadBack) : Type 0 where
   pub inside : (n : ℕ) (p : declared-place.AtPlace) → r ≡ Read n p → PlaceInside (take n buf) used p
-
--- what is told of the pack s is the item: the value's bytes; and, at the places of the pack that are told, primary part, data, identifier,
--- and delete flag or delete identifier
-pub record Tells (s : List ℕ) (item : Item) (p : declared-place.AtPlace) : Type 0 where
-  pub found : declared-record.Record
-  pub value : Place
-  pub is : p ≡ place-answer.Record found value
-  pub value-is : partAt s value ≡ valueOf item
-  pub holds : held.recordIn s (result (recordIn s found)) ≡ heldOf item
-
--- the record that was asked for is read in the front, and the records before it, where they were accepted, read as they did
-pub record IsAdded (asked : Option Item) (before front : List ℕ) (p : declared-place.AtPlace) : Type 0 where
-  pub item : Item
-  pub is-asked : asked ≡ some item
-  pub tells : Tells front item p
-  pub extends : reading packLimit before .ending ≡ whole → Extends packLimit before item front
 
 -- of a call that is asked to add a record after the first `used` bytes
 pub record ReadBackHolds (used : ℕ) (asked : Option Item) (before : List ℕ) (r : ReadBack) (after : List ℕ) : Type 0 where

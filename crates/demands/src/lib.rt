@@ -1,10 +1,10 @@
-// What the customer signs, as theorems: each file of specs/ has one of them. The code here only calls the
-// writer, the reader and the lookup, so that demand 3 and demand 2's read-back are ensured of the code
-// that runs.
+// What the customer signs, of the code that runs: the functions here only call the writer, the reader and
+// the lookup, and ensure demand 3 and demand 2's read-back. The theorems are those of crates/demands_laws
+// and crates/writer_laws.
 ghost use mathlib.Core.Path.{_≡_};
 ghost use mathlib.Core.Option.{some};
 ghost use Rattle.identifier.specs.Held.{named};
-ghost use Rattle.writer.specs.Writing.{block, version, versionDelete, deletion, ofIdentity, answerOf};
+ghost use Rattle.writer.specs.Writing.{block, version, versionDelete, packList, deletion, ofIdentity, answerOf};
 ghost use Rattle.current_version.specs.Current.{isName};
 ghost use Rattle.demands.specs.Answers.{ofFront, CountInside, answersOf, lookedUp, WritesFor, DeletionInside, DeletionHolds, BothHold, readBackOf, readBehind, ReadInside, ReadBackHolds};
 use identifier::Identifier;
@@ -163,6 +163,13 @@ pub fn write_delete_then_read(buf: &mut [u8], used: usize, part: &[u8]) -> ReadB
     ensures { λ r. ⌜ ReadBackHolds used (some (versionDelete (now (part .entry)))) (now (buf .entry)) r (now (buf .exit)) ⌝ }
 {
     let written = writer::write_delete(buf, used, part);
+    read_back(buf, used, written)
+}
+
+pub fn write_pack_list_then_read(buf: &mut [u8], used: usize, part: &[u8]) -> ReadBack
+    ensures { λ r. ⌜ ReadBackHolds used (some (packList (now (part .entry)))) (now (buf .entry)) r (now (buf .exit)) ⌝ }
+{
+    let written = writer::write_pack_list(buf, used, part);
     read_back(buf, used, written)
 }
 

@@ -88,6 +88,7 @@ module _ (s : List ℕ) (value : Place) where
       by-kind kind-answer.Block e = other-inside
       by-kind (kind-answer.Version deleted) e = version-inside primary (d .identifier) deleted (version-told deleted (sym e))
       by-kind (kind-answer.VersionDelete id) e = deletion-inside (d .identifier) texts-inside
+      by-kind kind-answer.PackList e = other-inside
 
     pub role-inside : result (recordIn s d) ≡ answerFrom (value .start) (readRecord packLimit tag (partAt s value))
         → roleIn s (roleFor primary (d .identifier) (d .kind)) ≡ current.role packLimit tag (partAt s value)

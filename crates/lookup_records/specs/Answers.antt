@@ -30,6 +30,7 @@ abbrev pub roleFor : Place → Texts → Kind → Role
 roleFor primary t kind-answer.Block = Other
 roleFor primary t (kind-answer.Version deleted) = Version primary t deleted
 roleFor primary t (kind-answer.VersionDelete id) = Deletion t
+roleFor primary t kind-answer.PackList = Other
 
 -- if those of one tag are not read
 unfoldable pub roleBut : ℕ → ℕ → ℕ → List ℕ → current.Role

@@ -45,6 +45,7 @@ fn by_kind(r: Record) -> Role
         Kind::Block => Role::Other,
         Kind::Version(deleted) => Role::Version(primary, t, deleted),
         Kind::VersionDelete(_) => Role::Deletion(t),
+        Kind::PackList => Role::Other,
     }
 }
 

@@ -1,34 +1,27 @@
 -- Heads: the one at the front of a list, by its first byte's format; how large it can be; and the one at a place.
-use Prim.Native.Nat.{ℕ, suc, _+_, _-_, _^_, _≤_, _<_}
+use Prim.Native.Nat.{ℕ, suc, _+_, _-_, _≤_, _<_}
 use mathlib.Core.List.{List, [], _∷_}
 use mathlib.Core.Option.{none, some}
 use mathlib.Core.Path.{_≡_, refl, sym, ap, _∙_}
-use native.Mathlib.Nat.{not-suc-le-zero, add-zero, add-assoc, pow-le-pow-right, lt-of-lt-of-le}
+use native.Mathlib.Nat.{not-suc-le-zero, add-zero, add-assoc}
 use native.Mathlib.Omega.{arith}
 use borrow.Author.Tests.{lt-ltb, le-ltb}
-use lib.Dec.{leb, lit<}
-use lib.ListN.{length, getD, take, drop, length-drop}
-use lib.Seq.{getD-drop, length-take-le, drop-drop}
-use Rattle.slices.specs.Bytes.{AllBytes, take-bytes, drop-bytes}
+use lib.Dec.{leb}
+use lib.ListN.{length, getD, drop, length-drop}
+use lib.Seq.{getD-drop, drop-drop}
+use Rattle.slices.specs.Bytes.{AllBytes, drop-bytes}
 use Rattle.slices.specs.Logic.{leb-shift}
-use Rattle.endian.specs.Numbers.{little, big, big-lt}
+use Rattle.endian.specs.Numbers.{little, big}
 use Rattle.endian.specs.Places.{holds, numberAt, number-there}
 use Rattle.msgpack.specs.Formats.{integerKind, textKind, arrayKind, mapKind, format, kindOf, widthOf, amountOf, formatOf}
 use Rattle.msgpack.specs.declared.Format.{Format}
 use Rattle.msgpack.specs.Items.{head, noHead, headBy, headOf, HeadAt}
-use Rattle.msgpack.specs.HeadLaws.{NumberRead, number-read, Narrow, narrow}
+use Rattle.msgpack.specs.HeadLaws.{number-read, read-small, Narrow, narrow}
 
 no-bytes : (s : List ℕ) → length s ≡ 0 → HeadAt s noHead
 unfolding headOf
 no-bytes [] h = record { is = refl; inside = omega arith; small = omega arith }
 no-bytes (b ∷ t) h = absurd (omega arith)
-
--- a number of at most 4 bytes
-pub read-small : (s : List ℕ) (at w n : ℕ) → AllBytes s → w ≤ 4 → NumberRead big s at w n → n < 2 ^ 32
-read-small s at w n bytes h r =
-    let l : length (take w (drop at s)) ≡ w = length-take-le w (drop at s) (rw length-drop (omega (arith, r .within .inside))) in
-    let b : big (take w (drop at s)) < 256 ^ w = rw l at (big-lt (take w (drop at s)) (take-bytes w (drop at s) (drop-bytes at bytes))) in
-    rw (r .is) (lt-of-lt-of-le b (pow-le-pow-right {n = 256} (lit< tt) h))
 
 by-format : (s : List ℕ) (f : Format) → 0 < length s → f ≡ formatOf (getD s 0 0) → headOf s ≡ headBy f (numberAt big s 1 (widthOf f))
 unfolding headOf

@@ -10,8 +10,8 @@ use Rattle.slices.specs.Bytes.{none-bytes, cons-bytes}
 use Rattle.endian.specs.Numbers.{little, big}
 use Rattle.msgpack.specs.Items.{whole, passOver}
 use Rattle.msgpack.specs.Lookup.{broken, lastValue}
-use Rattle.msgpack.specs.Pairs.{codeOf, position, keysAsked, Asked, isRepeated, placeTold, PairsRead}
-use Rattle.msgpack.specs.PairLaws.{letter-asked, place-is, no-map}
+use Rattle.msgpack.specs.Pairs.{codeOf, position, Asked, isRepeated, placeTold, PairsRead}
+use Rattle.msgpack.specs.PairLaws.{place-is, letter-place, letter-repeats, no-letter}
 use Rattle.msgpack.specs.Views.{repeats, byteView}
 use Rattle.msgpack.specs.declared.Pairs.{Pairs}
 use Rattle.primary.specs.Parts.{ulidKey, bucketKey, objectKey, identifierKey, deletedKey, deleteIdKey}
@@ -19,25 +19,13 @@ use Rattle.primary.specs.Parts as keys
 use Rattle.primary.specs.Answers.{IdentifierAt}
 
 module _ (s keys : List ℕ) (r : Pairs) (read : PairsRead s keys r) (n : ℕ) (w : passOver s ≡ whole n) where
-  -- of a key of one byte, which is the j-th asked for
-  letter-place : (b j : ℕ) → b < 256 → j < keysAsked → position keys (codeOf (b ∷ [])) ≡ j → r .map ≡ true → lastValue (b ∷ []) s ≡ placeTold (getD (r .places) j 0)
-  letter-place b j byte l e m =
-      place-is s keys r read n w (b ∷ []) (letter-asked keys b byte (omega arith)) m ∙ ap (λ (k : ℕ). placeTold (getD (r .places) k 0)) e
-
   identifier-places : position keys (codeOf ulidKey) ≡ 0 → position keys (codeOf bucketKey) ≡ 1 → position keys (codeOf objectKey) ≡ 2
       → r .map ≡ true → IdentifierAt s (r .places)
   identifier-places v b o m = record {
-    ulid = letter-place 118 0 (omega arith) (omega arith) v m;
-    bucket = letter-place 98 1 (omega arith) (omega arith) b m;
-    object = letter-place 111 2 (omega arith) (omega arith) o m;
+    ulid = letter-place s keys r read n w 118 0 (omega arith) (omega arith) v m;
+    bucket = letter-place s keys r read n w 98 1 (omega arith) (omega arith) b m;
+    object = letter-place s keys r read n w 111 2 (omega arith) (omega arith) o m;
   }
-
-  letter-repeats : (b j : ℕ) → b < 256 → j < keysAsked → position keys (codeOf (b ∷ [])) ≡ j → isRepeated (b ∷ []) s ≡ getD (r .repeated) j false
-  letter-repeats b j byte l e =
-      sym (read .repeated (b ∷ []) (letter-asked keys b byte (omega arith))) ∙ ap (λ (k : ℕ). getD (r .repeated) k false) e
-
-  no-letter : (b j : ℕ) → b < 256 → j < keysAsked → position keys (codeOf (b ∷ [])) ≡ j → r .map ≡ false → lastValue (b ∷ []) s ≡ broken
-  no-letter b j byte l e m = no-map s keys r read n w (b ∷ []) (letter-asked keys b byte (omega arith)) m
 
 -- ---- an identifier's map
 

@@ -7,12 +7,11 @@ use native.Mathlib.Omega.{arith}
 use lib.ListN.{length, take, drop, length-drop}
 use lib.Seq.{drop-drop}
 use Rattle.slices.specs.Logic.{absurd-numbers}
-use Rattle.slices.specs.Lists.{part-to-end}
 use Rattle.slices.specs.Places.{Inside}
 use Rattle.slices.specs.declared.Place.{Place}
 use Rattle.msgpack.specs.Formats.{textKind}
 use Rattle.msgpack.specs.Readers.{part, readText}
-use Rattle.msgpack.specs.ReaderLaws.{part-inside}
+use Rattle.msgpack.specs.ReaderLaws.{part-inside, part-there}
 use Rattle.msgpack.specs.Lookup.{lastValue, atPlace}
 use Rattle.msgpack.specs.Pairs.{placeTold}
 use Rattle.msgpack.specs.PairLaws.{told-inside}
@@ -37,29 +36,25 @@ texts-inside s t h = record { texts = λ u e. let same : t ≡ u = cc in subst (
 pub no-texts : (s : List ℕ) → TextsInside s texts-answer.Missing
 no-texts s = record { texts = λ u e. absurd-numbers (cc) }
 
--- ---- a part from a place up to its end
+-- ---- a text at a place
 
-module _ (s : List ℕ) (at : ℕ) (within : at ≤ length s) where
-  abbrev rest : List ℕ
-  rest = take (length s - at) (drop at s)
-
-  -- ---- a text
-
-  module _ (start len : ℕ) (e : some (part start len) ≡ readText rest) where
+module _ (s : List ℕ) (at : ℕ) where
+  module _ (start len : ℕ) (e : some (part start len) ≡ readText (drop at s)) where
     pub text-found : some (take len (drop (at + start) s)) ≡ textAt (drop at s)
     unfolding textAt
-    text-found = rw (ap readText (sym (part-to-end at s)) ∙ sym e, drop-drop)
+    text-found = rw (sym e, drop-drop)
 
     pub text-ends : Inside s (record { start = at + start; len = len })
     text-ends = record {
       end =
-          let h = part-inside textKind (drop at s) (part start len) (ap readText (sym (part-to-end at s)) ∙ sym e) in
-          omega (arith, h, length-drop at s);
+          let h = part-inside textKind (drop at s) (part start len) (sym e) in
+          let there = part-there textKind (drop at s) (part start len) (omega arith) (sym e) in
+          omega (arith, h, there, length-drop at s);
     }
 
-  pub text-missing : none ≡ readText rest → none ≡ textAt (drop at s)
+  pub text-missing : none ≡ readText (drop at s) → none ≡ textAt (drop at s)
   unfolding textAt
-  text-missing e = rw (ap readText (sym (part-to-end at s)) ∙ sym e)
+  text-missing e = rw (sym e)
 
 -- ---- the text under a key, by the place told of it
 

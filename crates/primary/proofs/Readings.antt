@@ -3,21 +3,19 @@ use Prim.Native.Nat.{ℕ}
 use mathlib.Core.Bool.{Bool, true, false, cond, _||_}
 use mathlib.Core.List.{List, [], _∷_}
 use mathlib.Core.Option.{Option, none, some}
-use mathlib.Core.Path.{_≡_, refl, sym, ap, subst, _∙_}
-use borrow.Author.Tests.{eqb-true}
-use lib.ListN.{length, drop}
+use mathlib.Core.Path.{_≡_, refl, sym, ap, subst}
+use lib.ListN.{drop}
 use Rattle.slices.specs.Logic.{absurd-numbers}
 use Rattle.slices.specs.Places.{Inside}
 use Rattle.slices.specs.declared.Place.{Place}
-use Rattle.refusals.specs.Answers.{Answer, refused, result}
-use Rattle.msgpack.specs.Items.{Passage, whole, cut, tooDeep, passOver}
+use Rattle.refusals.specs.Answers.{refused, result}
 use Rattle.msgpack.specs.Lookup.{ValuePlace, broken, lastValue, atPlace}
 use Rattle.msgpack.specs.Pairs.{placeTold}
 use Rattle.msgpack.specs.Readers.{readBoolean}
 use Rattle.identifier.specs.Ulid.{isUlid}
 use Rattle.identifier.specs.Identity.{Identity, isValid, identityOf}
 use Rattle.msgpack.specs.Views.{repeats, textAt, frontOf, byteView, read-front, text-times}
-use Rattle.primary.specs.Parts.{isOfLength, fills, ifFills, textUnder, textsBy, textsUnder, ulidKey, bucketKey, objectKey, identifierKey, deletedKey, deleteIdKey, blockKeys, versionKeys, versionDeleteKeys, deletedUnder, valid, ulidOf, shapeOf, shapeAt, shapeUnder, blockBy, identifierRepeats, blockRepeats, block, versionBy, version, versionDeleteBy, versionDelete}
+use Rattle.primary.specs.Parts.{fills, textUnder, textsBy, textsUnder, ulidKey, bucketKey, objectKey, identifierKey, deletedKey, deleteIdKey, blockKeys, versionKeys, versionDeleteKeys, deletedUnder, valid, ulidOf, shapeOf, shapeAt, shapeUnder, blockBy, identifierRepeats, blockRepeats, block, versionBy, version, versionDeleteBy, versionDelete}
 use Rattle.primary.specs.Answers.{AllInside, BlockInside, VersionInside, DeleteInside}
 use Rattle.primary.specs.declared.Texts.{Texts}
 use Rattle.primary.specs.declared.Fault.{Fault}
@@ -81,23 +79,6 @@ module _ (s : List ℕ) where
   flag-told p e = rw e (sym (read-front (some false) readBoolean s (placeTold p)))
 
 -- ---- the parts
-
--- by what passing over gave
-pub fills-is : (s : List ℕ) (p : Passage) (t : Bool) → p ≡ passOver s → t ≡ isOfLength (length s) p → fills s ≡ t
-unfolding fills
-fills-is s p t e f = rw (← e, f)
-
-pub fills-whole : (s : List ℕ) → fills s ≡ true → passOver s ≡ whole (length s)
-unfolding fills
-fills-whole s e = by (passOver s) refl e
-  where
-    by : (p : Passage) → passOver s ≡ p → isOfLength (length s) p ≡ true → passOver s ≡ whole (length s)
-    by (whole m) q f = q ∙ ap whole (eqb-true m (length s) f)
-    by cut q f = absurd-numbers (cc)
-    by tooDeep q f = absurd-numbers (cc)
-
-pub not-filled : {A : Type 0} (s : List ℕ) (next : Answer A) → fills s ≡ false → refused 16 ≡ ifFills s next
-not-filled s next w = rw w
 
 module _ (s : List ℕ) (w : fills s ≡ true) where
   -- by where the last `I` stands, and whether another does

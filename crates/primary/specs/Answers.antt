@@ -1,5 +1,5 @@
 -- What the answers of the code say: the contents of a part at the places told.
-use Prim.Native.Nat.{ℕ}
+use Prim.Native.Nat.{ℕ, _+_}
 use mathlib.Core.Bool.{Bool}
 use mathlib.Core.List.{List}
 use mathlib.Core.Option.{Option, none, some}
@@ -8,6 +8,7 @@ use lib.ListN.{getD}
 use Rattle.slices.specs.Places.{partAt, Inside}
 use Rattle.slices.specs.declared.Place.{Place}
 use Rattle.refusals.specs.Answers.{Answer, refused, result}
+use Rattle.msgpack.specs.Readers.{Part}
 use Rattle.msgpack.specs.Lookup.{lastValue}
 use Rattle.msgpack.specs.Pairs.{placeTold}
 use Rattle.identifier.specs.Identity.{Identity, identity}
@@ -41,6 +42,15 @@ textsIn s t = identity (partAt s (t .ulid)) (partAt s (t .bucket)) (partAt s (t 
 abbrev pub textOf : List ℕ → TextRead → Option (List ℕ)
 textOf s (text-answer.At t) = some (partAt s t)
 textOf s text-answer.Missing = none
+
+-- where a text has its content, whose item stands at a place
+abbrev pub placedAt : ℕ → Option Part → Option Place
+placedAt at (some p) = some (record { start = at + p .start; len = p .size })
+placedAt at none = none
+
+abbrev pub placeOf : TextRead → Option Place
+placeOf (text-answer.At p) = some p
+placeOf text-answer.Missing = none
 
 abbrev pub textsOf : List ℕ → TextsRead → Option Identity
 textsOf s (texts-answer.At t) = some (textsIn s t)

@@ -1,4 +1,5 @@
 pub mod Parts
+pub mod Filling
 pub mod PartsAlike
 pub mod Answers
 pub mod Exactly

@@ -8,7 +8,7 @@ ghost use lib.ListN.{length, drop};
 ghost use Rattle.slices.specs.Places.{partAt, Inside};
 ghost use Rattle.refusals.specs.Answers.{result, orRefused};
 ghost use Rattle.msgpack.specs.Items.{passageOf, WholeItem};
-ghost use Rattle.msgpack.specs.Readers.{booleanOf, readBoolean};
+ghost use Rattle.msgpack.specs.Readers.{booleanOf, readBoolean, readText};
 ghost use Rattle.msgpack.specs.Lookup.{atPlace};
 ghost use Rattle.msgpack.specs.Pairs.{placeTold};
 ghost use Rattle.msgpack.specs.Views.{repeats, textAt, byteView};
@@ -16,7 +16,7 @@ ghost use Rattle.identifier.specs.Identity.{isValid};
 ghost use Rattle.identifier.specs.Ulid.{isUlid};
 ghost use Rattle.identifier.specs.Composite.{identityIn};
 ghost use Rattle.primary.specs.Parts.{isOfLength, identityKeys, textsUnder, shapeOf, shapeAt, valid, blockBy, block, version, versionDelete};
-ghost use Rattle.primary.specs.Answers.{numberOf, IdentifierAt, textsIn, textOf, textsOf, blockOf, versionOf, versionDeleteOf, AllInside, TextInside, TextsInside, BlockInside, VersionInside, DeleteInside};
+ghost use Rattle.primary.specs.Answers.{numberOf, IdentifierAt, textsIn, textOf, placedAt, placeOf, textsOf, blockOf, versionOf, versionDeleteOf, AllInside, TextInside, TextsInside, BlockInside, VersionInside, DeleteInside};
 use identifier::Split;
 use msgpack::Boolean;
 use msgpack::Content;
@@ -90,7 +90,7 @@ pub enum DeleteRead {
     Fault(Fault),
 }
 
-enum TextRead {
+pub enum TextRead {
     At(Place),
     Missing,
 }
@@ -101,7 +101,7 @@ enum TextsRead {
 }
 
 // Whether one whole item fills a part of so many bytes.
-fn fills(passed: Passed, len: usize) -> bool
+pub fn fills(passed: Passed, len: usize) -> bool
     ensures { λ r. ⌜ r ≡ isOfLength len (passageOf passed) ⌝ }
 {
     match passed {
@@ -112,12 +112,12 @@ fn fills(passed: Passed, len: usize) -> bool
 }
 
 // The text at a place.
-fn text_at(part: &[u8], at: usize) -> TextRead
-    requires { ⌜ at ≤ length (now part) ⌝ }
+pub fn text_at(part: &[u8], at: usize) -> TextRead
     ensures { λ r. ⌜ textOf (now (part .entry)) r ≡ textAt (drop at (now (part .entry))) ⌝ }
     ensures inside { λ r. ⌜ TextInside (now (part .entry)) r ⌝ }
+    ensures place { λ r. ⌜ placeOf r ≡ placedAt at (readText (drop at (now (part .entry)))) ⌝ }
 {
-    match msgpack::read_text(&part[at..]) {
+    match msgpack::read_text(slices::from(part, at)) {
         Content::Part { start, len } => TextRead::At(Place {
             start: at + start,
             len,

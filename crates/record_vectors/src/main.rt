@@ -1,12 +1,14 @@
-// Runs vectors through the crates pack, identifier, value, primary, records and writer. Standard input,
-// which tests/record_vectors.py makes, is how many vectors there are, and for each its title, its kind,
-// its bytes, and what else the kind takes. A line of standard output is the title and what is found.
+// Runs vectors through the crates pack, identifier, value, primary, pack_list, records and writer.
+// Standard input, which tests/record_vectors.py makes, is how many vectors there are, and for each its
+// title, its kind, its bytes, and what else the kind takes. A line of standard output is the title and
+// what is found.
 use crate::input::read_field;
 use crate::input::read_number;
 use crate::show::say;
 
 mod input;
 mod names;
+mod pack_lists;
 mod readings;
 mod show;
 mod writings;
@@ -29,7 +31,11 @@ const PARTS: usize = 7;
 
 const WALK: usize = 8;
 
-const NAMES: usize = 9;
+const PACK_LIST: usize = 9;
+
+const FIND_BLOCK: usize = 10;
+
+const NAMES: usize = 11;
 
 fn run_kind(kind: usize, bytes: &[u8]) {
     match kind {
@@ -42,6 +48,8 @@ fn run_kind(kind: usize, bytes: &[u8]) {
         AT => readings::at_place(bytes, read_number()),
         PARTS => readings::parts(bytes),
         WALK => readings::walked(bytes, read_number()),
+        PACK_LIST => pack_lists::entries(bytes),
+        FIND_BLOCK => pack_lists::found(bytes, read_number()),
         NAMES => names::run(bytes),
         _ => writings::run(kind, bytes),
     }

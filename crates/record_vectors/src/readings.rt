@@ -47,6 +47,7 @@ fn say_part(s: &[u8], t: Texts, kind: Kind) {
         Kind::Block => (),
         Kind::Version(deleted) => say_number(b'd', deleted as usize),
         Kind::VersionDelete(id) => show::say_text_in(b'?', s, id),
+        Kind::PackList => (),
     }
 }
 

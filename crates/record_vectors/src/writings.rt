@@ -11,17 +11,20 @@ use crate::show::say_refusal;
 use libc::STDOUT_FILENO;
 use writer::Written;
 
-const BLOCK: usize = 10;
+const BLOCK: usize = 12;
 
-const VERSION: usize = 11;
+const VERSION: usize = 13;
 
-const DELETE: usize = 12;
+const DELETE: usize = 14;
+
+const PACK_LIST: usize = 15;
 
 fn write(kind: usize, out: &mut [u8], used: usize, s: &[u8]) -> Written {
     match kind {
         BLOCK => writer::write_block(out, used, read_identifier(), s),
         VERSION => writer::write_version(out, used, s),
         DELETE => writer::write_delete(out, used, s),
+        PACK_LIST => writer::write_pack_list(out, used, s),
         _ => writer::write_delete_of(out, used, read_identifier(), s),
     }
 }

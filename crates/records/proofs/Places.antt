@@ -9,10 +9,9 @@ use Rattle.slices.specs.declared.Place.{Place}
 use Rattle.tlv.specs.declared.Fault as tlv
 use Rattle.primary.specs.Answers.{textsIn, AllInside}
 use Rattle.primary.specs.declared.Texts.{Texts}
-use Rattle.primary.specs.declared.Fault as primary
 use Rattle.records.specs.Answers.{kindIn, contentsIn, shiftTexts, shiftKind, KindInside, ContentsInside, PartInside, ContentsWithin, PlacesInside, RecordInside, IsValue, PlaceInside}
 use Rattle.records.specs.declared.Kind.{Kind}
-use Rattle.records.specs.declared.Kind.the-variants.{Block, Version, VersionDelete}
+use Rattle.records.specs.declared.Kind.the-variants.{Block, Version, VersionDelete, PackList}
 use Rattle.records.specs.declared.Record.{Record}
 use Rattle.records.specs.declared.Fault.{Fault}
 use Rattle.records.specs.declared.PartRead.the-variants as part-answer
@@ -31,6 +30,9 @@ module _ (part : List ℕ) where
   delete-kind : (id : Place) → Inside part id → KindInside part (VersionDelete id)
   delete-kind id h = record { delete-id = λ other e. let same : id ≡ other = cc in subst (λ t. Inside part t) same h }
 
+  list-kind : KindInside part PackList
+  list-kind = record { delete-id = λ id e. absurd-numbers (cc) }
+
   read-inside : (t : Texts) (k : Kind) → ContentsInside part t k → PartInside part (part-answer.Read t k)
   read-inside t k h = record {
     contents = λ u l e. let texts : t ≡ u = cc in let kinds : k ≡ l = cc in rw (← texts, ← kinds) h;
@@ -45,7 +47,10 @@ module _ (part : List ℕ) where
   pub delete-inside : (t : Texts) (id : Place) → AllInside part t → Inside part id → PartInside part (part-answer.Read t (VersionDelete id))
   delete-inside t id h i = read-inside t (VersionDelete id) (record { identifier = h; kind = delete-kind id i })
 
-  pub none-inside : (f : primary.Fault) → PartInside part (part-answer.Refused f)
+  pub list-inside : (t : Texts) → AllInside part t → PartInside part (part-answer.Read t PackList)
+  list-inside t h = read-inside t PackList (record { identifier = h; kind = list-kind })
+
+  pub none-inside : (f : Fault) → PartInside part (part-answer.Refused f)
   none-inside f = record { contents = λ t k e. absurd-numbers (cc) }
 
 -- ---- from the part of s at a place to s
@@ -54,19 +59,21 @@ module _ (s : List ℕ) (p : Place) where
   texts-shifted : (t : Texts) → AllInside (partAt s p) t → textsIn s (shiftTexts (p .start) t) ≡ textsIn (partAt s p) t
   texts-shifted t h = rw (shifted-part s p (t .ulid) (h .ulid), shifted-part s p (t .bucket) (h .bucket), shifted-part s p (t .object) (h .object))
 
-  kind-shifted : (k : Kind) → KindInside (partAt s p) k → kindIn s (shiftKind (p .start) k) ≡ kindIn (partAt s p) k
+  kind-shifted : (k : Kind) → KindInside (partAt s p) k → kindIn s (partAt s p) (shiftKind (p .start) k) ≡ kindIn (partAt s p) (partAt s p) k
   kind-shifted Block h = refl
   kind-shifted (Version deleted) h = refl
   kind-shifted (VersionDelete id) h = rw (shifted-part s p id (h .delete-id id refl))
+  kind-shifted PackList h = refl
 
   delete-within : (k : Kind) → KindInside (partAt s p) k → (id : Place) → shiftKind (p .start) k ≡ VersionDelete id → Within p id
   delete-within Block h id e = absurd-numbers (cc)
   delete-within (Version deleted) h id e = absurd-numbers (cc)
   delete-within (VersionDelete t) h id e =
       subst (λ u. Within p u) (cc) (shifted-within s p t (h .delete-id t refl))
+  delete-within PackList h id e = absurd-numbers (cc)
 
   module _ (t : Texts) (k : Kind) (h : ContentsInside (partAt s p) t k) where
-    pub contents-shifted : contentsIn s (shiftTexts (p .start) t) (shiftKind (p .start) k) ≡ contentsIn (partAt s p) t k
+    pub contents-shifted : contentsIn s (partAt s p) (shiftTexts (p .start) t) (shiftKind (p .start) k) ≡ contentsIn (partAt s p) (partAt s p) t k
     contents-shifted = rw (texts-shifted t (h .identifier), kind-shifted k (h .kind))
 
     pub contents-within : ContentsWithin p (shiftTexts (p .start) t) (shiftKind (p .start) k)

@@ -22,12 +22,15 @@ use Rattle.value.specs.Header.{Telling, tellingOf}
 use Rattle.value.specs.Reading.{reading}
 use Rattle.value.specs.ReadingLaws.{is-told, parts-inside}
 use Rattle.value.specs.declared.Told.{Told}
-use Rattle.primary.specs.Answers.{numberOf}
-use Rattle.primary.specs.declared.Fault.{Fault}
 use Rattle.primary.specs.declared.Texts.{Texts}
-use Rattle.records.specs.Record.{isKnown, Contents, contents, Record, toldRows, primaryIn, withTold, readRecord, alone, refusedAt, atPlace, byStep, recordAt, toldFrom, answerFrom, thereFrom}
-use Rattle.records.specs.Answers.{partOf, recordIn, shiftTexts, shiftKind, ContentsInside, PartInside, placeOfPart, ToldInside, PlacesInside, IsValue}
+use Rattle.pack_list.specs.Lists.{packList}
+use Rattle.pack_list.specs.Answers.{listIn}
+use Rattle.pack_list.specs.declared.PackList as listed
+use Rattle.records.specs.Record.{isKnown, Contents, ofPackList, contents, Record, toldRows, primaryIn, withTold, readRecord, alone, refusedAt, atPlace, byStep, recordAt, toldFrom, answerFrom, thereFrom}
+use Rattle.records.specs.Answers.{numberOf, contentsIn, partOf, recordIn, shiftTexts, shiftKind, ContentsInside, PartInside, placeOfPart, ToldInside, PlacesInside, IsValue}
 use Rattle.records.specs.declared.Kind.{Kind}
+use Rattle.records.specs.declared.Kind.the-variants as kind-answer
+use Rattle.records.specs.declared.Fault.{Fault}
 use Rattle.records.specs.declared.Record as declared-record
 use Rattle.records.specs.declared.PartRead.{PartRead}
 use Rattle.records.specs.declared.PartRead.the-variants.{Read, Refused}
@@ -63,6 +66,12 @@ module _ (limit : ℕ) (s : List ℕ) (v : Place) (t : Told) (e : reading limit 
       by none (result c) = refl
       by none (refused n) = refl
       by (some n) c = refl
+
+-- ---- the primary part of a pack list, whose entries the part tells
+
+pub list-read : (part : List ℕ) (l : listed.PackList) → result (listIn part l) ≡ packList part
+    → result (contentsIn part part (l .identifier) kind-answer.PackList) ≡ ofPackList (packList part)
+list-read part l e = rw (← e)
 
 -- ---- the primary part, as it is lent
 

@@ -1,6 +1,6 @@
 -- What the answers of the code say: document 01's numbers, and the contents at the places told.
 use Prim.Native.Nat.{ℕ, _+_, _^_, _<_}
-use mathlib.Core.List.{List}
+use mathlib.Core.List.{List, []}
 use mathlib.Core.Path.{_≡_}
 use lib.ListN.{drop}
 use Rattle.slices.specs.Places.{partAt, Inside, Within, shiftPlace}
@@ -13,12 +13,13 @@ use Rattle.value.specs.declared.Told.{Told}
 use Rattle.primary.specs.Answers as primary
 use Rattle.primary.specs.Answers.{textsIn, AllInside}
 use Rattle.primary.specs.declared.Texts.{Texts}
-use Rattle.records.specs.Record.{Kind, block, version, versionDelete, Contents, Record, AtPlace, there, refusedAt, alone}
+use Rattle.pack_list.specs.Lists as list
+use Rattle.records.specs.Record.{Kind, block, version, versionDelete, packList, Contents, Record, primaryIn, AtPlace, there, refusedAt, alone}
 use Rattle.records.specs.declared.Kind as declared-kind
 use Rattle.records.specs.declared.Kind.the-variants as kind-answer
 use Rattle.records.specs.declared.Record as declared-record
 use Rattle.records.specs.declared.Fault.{Fault}
-use Rattle.records.specs.declared.Fault.the-variants.{Value, UnknownTag, Version, Encoded, Primary}
+use Rattle.records.specs.declared.Fault.the-variants.{Value, UnknownTag, Version, Encoded, Primary, Unfilled}
 use Rattle.records.specs.declared.PartRead.{PartRead}
 use Rattle.records.specs.declared.PartRead.the-variants as part-answer
 use Rattle.records.specs.declared.Reading.{Reading}
@@ -32,25 +33,33 @@ numberOf UnknownTag = 13
 numberOf Version = 14
 numberOf Encoded = 15
 numberOf (Primary f) = primary.numberOf f
+numberOf Unfilled = 21
 
 -- ---- contents at places
 
-abbrev pub kindIn : List ℕ → declared-kind.Kind → Kind
-kindIn s kind-answer.Block = block
-kindIn s (kind-answer.Version deleted) = version deleted
-kindIn s (kind-answer.VersionDelete id) = versionDelete (partAt s id)
+-- of a pack list that was read; else none
+abbrev pub entriesOf : Answer list.PackList → List list.Entry
+entriesOf (result l) = l .entries
+entriesOf (refused n) = []
 
-abbrev pub contentsIn : List ℕ → Texts → declared-kind.Kind → Contents
-contentsIn s t k = record { identifier = textsIn s t; kind = kindIn s k }
+-- the places are of s; the entries of a pack list are those of the primary part
+abbrev pub kindIn : (s part : List ℕ) → declared-kind.Kind → Kind
+kindIn s part kind-answer.Block = block
+kindIn s part (kind-answer.Version deleted) = version deleted
+kindIn s part (kind-answer.VersionDelete id) = versionDelete (partAt s id)
+kindIn s part kind-answer.PackList = packList (entriesOf (list.packList part))
+
+abbrev pub contentsIn : (s part : List ℕ) → Texts → declared-kind.Kind → Contents
+contentsIn s part t k = record { identifier = textsIn s t; kind = kindIn s part k }
 
 -- of the primary part
 abbrev pub partOf : List ℕ → PartRead → Answer Contents
-partOf part (part-answer.Read t k) = result (contentsIn part t k)
-partOf part (part-answer.Refused f) = refused (primary.numberOf f)
+partOf part (part-answer.Read t k) = result (contentsIn part part t k)
+partOf part (part-answer.Refused f) = refused (numberOf f)
 
 -- of the pack
 abbrev pub recordIn : List ℕ → declared-record.Record → Record
-recordIn s r = record { told = r .told; contents = contentsIn s (r .identifier) (r .kind) }
+recordIn s r = record { told = r .told; contents = contentsIn s (primaryIn s (r .told)) (r .identifier) (r .kind) }
 
 abbrev pub answerOf : List ℕ → Reading → Answer Record
 answerOf s (reading-answer.Record r) = result (recordIn s r)
@@ -72,6 +81,7 @@ abbrev pub shiftKind : ℕ → declared-kind.Kind → declared-kind.Kind
 shiftKind by kind-answer.Block = kind-answer.Block
 shiftKind by (kind-answer.Version deleted) = kind-answer.Version deleted
 shiftKind by (kind-answer.VersionDelete id) = kind-answer.VersionDelete (shiftPlace by id)
+shiftKind by kind-answer.PackList = kind-answer.PackList
 
 -- the sum is a number of 64 bits
 pub record KindFits (by : ℕ) (k : declared-kind.Kind) : Type 0 where

@@ -1,4 +1,4 @@
--- One record: what its tag and value tell, and what stands at a place of a pack; refusals 1 to 18, 20 and 22.
+-- One record: what its tag and value tell, and what stands at a place of a pack; refusals 1 to 18 and 20 to 22.
 use Prim.Native.Nat.{ℕ, _+_}
 use mathlib.Core.Bool.{Bool, cond, not, _||_}
 use mathlib.Core.List.{List, [], _∷_}
@@ -15,6 +15,7 @@ use Rattle.value.specs.Reading as value
 use Rattle.value.specs.declared.Part.{Part}
 use Rattle.value.specs.declared.Told.{Told}
 use Rattle.primary.specs.Parts as primary
+use Rattle.pack_list.specs.Lists.{Entry, PackList, packList as listPart}
 
 -- ---- tags: two letters, as one number
 
@@ -27,8 +28,11 @@ versionTag = 0x7672  -- `vr`
 abbrev pub versionDeleteTag : ℕ
 versionDeleteTag = 0x7664  -- `vd`
 
+abbrev pub packListTag : ℕ
+packListTag = 0x6f6c  -- `ol`
+
 unfoldable pub isKnown : ℕ → Bool
-isKnown tag = eqb tag blockTag || eqb tag versionTag || eqb tag versionDeleteTag
+isKnown tag = eqb tag blockTag || eqb tag versionTag || eqb tag versionDeleteTag || eqb tag packListTag
 
 -- ---- what the primary part tells
 
@@ -37,6 +41,7 @@ pub data Kind : Type 0 where
   block : Kind
   version : Bool → Kind  -- whether it is a delete marker
   versionDelete : List ℕ → Kind  -- the delete identifier
+  packList : List Entry → Kind
 
 pub record Contents : Type 0 where
   pub identifier : Identity
@@ -54,12 +59,17 @@ abbrev pub ofVersionDelete : Answer primary.VersionDelete → Answer Contents
 ofVersionDelete (result v) = result (record { identifier = v .identifier; kind = versionDelete (v .deleteId) })
 ofVersionDelete (refused n) = refused n
 
+abbrev pub ofPackList : Answer PackList → Answer Contents
+ofPackList (result l) = result (record { identifier = l .identifier; kind = packList (l .entries) })
+ofPackList (refused n) = refused n
+
 -- the primary part of a record with this tag, which is a known one
 unfoldable pub contents : ℕ → List ℕ → Answer Contents
 contents tag part =
     cond (eqb tag blockTag) (ofBlock (primary.block part))
     (cond (eqb tag versionTag) (ofVersion (primary.version part))
-    (ofVersionDelete (primary.versionDelete part)))
+    (cond (eqb tag versionDeleteTag) (ofVersionDelete (primary.versionDelete part))
+    (ofPackList (listPart part))))
 
 -- ---- a record by its tag and value alone
 
@@ -97,7 +107,7 @@ canBeRead limit tag s = isResult (readRecord limit tag s)
 
 -- ---- the record at a place of a pack
 
--- a record with its value's bytes; 1 to 8 with a place; 9 to 18, 20 and 22 alone
+-- a record with its value's bytes; 1 to 8 with a place; 9 to 18 and 20 to 22 alone
 pub data AtPlace : Type 0 where
   there : (value : List ℕ) → Record → AtPlace
   refusedAt : (number place : ℕ) → AtPlace

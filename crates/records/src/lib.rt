@@ -8,7 +8,8 @@ ghost use Rattle.refusals.specs.Limit.{packLimit};
 ghost use Rattle.refusals.specs.Answers.{unless};
 ghost use Rattle.value.specs.Header.{tellingOf};
 ghost use Rattle.primary.specs.Parts.{block, version, versionDelete};
-ghost use Rattle.records.specs.Record.{isKnown, ofBlock, ofVersion, ofVersionDelete, contents, toldRows, primaryIn, withTold, readRecord, recordAt, partFrom, toldFrom, answerFrom, thereFrom};
+ghost use Rattle.pack_list.specs.Lists.{packList};
+ghost use Rattle.records.specs.Record.{isKnown, ofBlock, ofVersion, ofVersionDelete, ofPackList, contents, toldRows, primaryIn, withTold, readRecord, recordAt, partFrom, toldFrom, answerFrom, thereFrom};
 ghost use Rattle.records.specs.Answers.{numberOf, partOf, answerOf, placeOf, shiftTexts, shiftKind, KindFits, PartInside, ToldInside, RecordInside, PlaceInside};
 use primary::BlockRead;
 use primary::DeleteRead;
@@ -26,7 +27,9 @@ pub const VERSION: u16 = 0x7672;
 
 pub const VERSION_DELETE: u16 = 0x7664;
 
-// Refusals 9 to 18 of document 01, and 22.
+pub const PACK_LIST: u16 = 0x6f6c;
+
+// Refusals 9 to 18 of document 01, 21 and 22.
 pub enum Fault {
     // 9 to 12, and 22.
     Value(value::Fault),
@@ -37,6 +40,8 @@ pub enum Fault {
     Encoded,
     // 16 to 18, and 22.
     Primary(primary::Fault),
+    // A pack list's ranges or lengths.
+    Unfilled,
 }
 
 // The number of a refusal, as document 01 has it.
@@ -49,6 +54,7 @@ pub fn number(f: Fault) -> u8
         Fault::Version => 14,
         Fault::Encoded => 15,
         Fault::Primary(f) => primary::number(f),
+        Fault::Unfilled => 21,
     }
 }
 
@@ -59,6 +65,8 @@ pub enum Kind {
     Version(bool),
     // The delete identifier.
     VersionDelete(Place),
+    // Its entries stand in the primary part.
+    PackList,
 }
 
 // What a record tells, as places of the pack: its value's parts; and, in the primary part, its
@@ -78,7 +86,7 @@ pub enum Reading {
 
 enum PartRead {
     Read(Texts, Kind),
-    Refused(primary::Fault),
+    Refused(Fault),
 }
 
 fn block(part: &[u8]) -> PartRead
@@ -87,7 +95,7 @@ fn block(part: &[u8]) -> PartRead
 {
     match primary::read_block(part) {
         BlockRead::Read(t) => PartRead::Read(t, Kind::Block),
-        BlockRead::Fault(f) => PartRead::Refused(f),
+        BlockRead::Fault(f) => PartRead::Refused(Fault::Primary(f)),
     }
 }
 
@@ -97,7 +105,7 @@ fn version(part: &[u8]) -> PartRead
 {
     match primary::read_version(part) {
         VersionRead::Read(t, deleted) => PartRead::Read(t, Kind::Version(deleted)),
-        VersionRead::Fault(f) => PartRead::Refused(f),
+        VersionRead::Fault(f) => PartRead::Refused(Fault::Primary(f)),
     }
 }
 
@@ -107,7 +115,23 @@ fn version_delete(part: &[u8]) -> PartRead
 {
     match primary::read_delete(part) {
         DeleteRead::Read(t, id) => PartRead::Read(t, Kind::VersionDelete(id)),
-        DeleteRead::Fault(f) => PartRead::Refused(f),
+        DeleteRead::Fault(f) => PartRead::Refused(Fault::Primary(f)),
+    }
+}
+
+fn pack_list(part: &[u8]) -> PartRead
+    ensures { λ r. ⌜ partOf (now (part .entry)) r ≡ ofPackList (packList (now (part .entry))) ⌝ }
+    ensures inside { λ r. ⌜ PartInside (now (part .entry)) r ⌝ }
+{
+    match pack_list::read(part) {
+        pack_list::Reading::List(l) => {
+            let identifier = l.identifier;
+            PartRead::Read(identifier, Kind::PackList)
+        }
+        pack_list::Reading::Refused(f) => match f {
+            pack_list::Fault::Part(p) => PartRead::Refused(Fault::Primary(p)),
+            pack_list::Fault::Unfilled => PartRead::Refused(Fault::Unfilled),
+        },
     }
 }
 
@@ -122,7 +146,10 @@ fn contents(tag: u16, part: &[u8]) -> PartRead
     if tag == VERSION {
         return version(part);
     }
-    version_delete(part)
+    if tag == VERSION_DELETE {
+        return version_delete(part);
+    }
+    pack_list(part)
 }
 
 // ---- from places of a part, or of a value, to places of the pack, in which it begins at `by`
@@ -159,6 +186,7 @@ fn kind_from(by: usize, kind: Kind) -> Kind
         Kind::Block => Kind::Block,
         Kind::Version(deleted) => Kind::Version(deleted),
         Kind::VersionDelete(id) => Kind::VersionDelete(place_from(by, id)),
+        Kind::PackList => Kind::PackList,
     }
 }
 
@@ -193,7 +221,7 @@ fn told_from(by: usize, t: Told) -> Told
 fn is_known(tag: u16) -> bool
     ensures { λ r. ⌜ r ≡ isKnown tag ⌝ }
 {
-    (tag == BLOCK) | (tag == VERSION) | (tag == VERSION_DELETE)
+    (tag == BLOCK) | (tag == VERSION) | (tag == VERSION_DELETE) | (tag == PACK_LIST)
 }
 
 fn with_part(tag: u16, pack: &[u8], told: Told) -> Reading
@@ -213,7 +241,7 @@ fn with_part(tag: u16, pack: &[u8], told: Told) -> Reading
                 kind,
             })
         }
-        PartRead::Refused(f) => Reading::Refused(Fault::Primary(f)),
+        PartRead::Refused(f) => Reading::Refused(f),
     }
 }
 
@@ -260,7 +288,7 @@ pub enum AtPlace {
     TooLong,
     // Refusals 2 to 8, at the place.
     Fault(tlv::Fault, usize),
-    // Refusals 9 to 18, and 22.
+    // Refusals 9 to 18, 21 and 22.
     Refused(Fault),
 }
 

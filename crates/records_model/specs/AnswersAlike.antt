@@ -47,7 +47,7 @@ pub record SameHeld (h g : Held) : Type 0 where
   pub secondary : h .secondary ≡ g .secondary
   pub told : h .told ≡ g .told
 
--- the same of the parts, and the same identifier, kind, delete flag or delete identifier
+-- the same of the parts, and the same identifier, kind, delete flag, delete identifier or entries
 pub record SameRecord (r q : RecordHeld) : Type 0 where
   pub held : SameHeld (r .held) (q .held)
   pub contents : r .contents ≡ q .contents

@@ -1,5 +1,5 @@
--- A block as two sites may write it, to which the theorem applies, with both answers computed; and a key that repeats, where the order decides which
--- number is given.
+-- A block and a pack list as two sites may write them, to which the theorem applies, with both answers computed; and a key that repeats, where the order
+-- decides which number is given.
 use Prim.Native.Nat.{ℕ, _+_}
 use mathlib.Core.Bool.{Bool, true, false, _&&_}
 use mathlib.Core.List.{List, [], _∷_, _++_}
@@ -16,12 +16,12 @@ use Rattle.endian.specs.Numbers.{little, big, littleBytes, bigBytes}
 use Rattle.endian.specs.Places.{holds, numberAt}
 use Rattle.msgpack.specs.Formats.{formats, formatOf}
 use Rattle.msgpack.specs.Items.{headOf, passItems, passHead, passItem}
-use Rattle.msgpack.specs.Readers.{isWhole, plus, integerOf, contentAt, readInteger, countAt}
+use Rattle.msgpack.specs.Readers.{isWhole, plus, minus, integerOf, contentAt, readInteger, countAt}
 use Rattle.msgpack.specs.Lookup.{keyAt, lastWhere, lastValue}
 use Rattle.msgpack.specs.Pairs.{timesWhere, timesOf}
 use Rattle.msgpack.specs.Views.{repeats, textAt, itemsFrom}
 use Rattle.msgpack_model.specs.Values.{Value, Integer, Text, Binary, Array, Map, no-values, value, Pairs, no-pairs, pair}
-use Rattle.msgpack_model.specs.Encoding.{fixstr, str8, bin8, bin16, fixarray, fixmap, map16, positive-fixint, uint16, text, binary, Encodes, scalar, array, map, none, next, no-pair, next-pair}
+use Rattle.msgpack_model.specs.Encoding.{fixstr, str8, bin8, bin16, fixarray, array16, fixmap, map16, positive-fixint, negative-fixint, uint8, uint16, text, binary, Encodes, scalar, array, map, none, next, no-pair, next-pair}
 use Rattle.msgpack_model.specs.Writers.{number-written}
 use Rattle.identifier.specs.Texts.{member, all}
 use Rattle.identifier.specs.Ulid.{alphabet, isCharacter, isUlid}
@@ -32,9 +32,12 @@ use Rattle.value.specs.Header as bytes
 use Rattle.value.specs.Reading.{reading}
 use Rattle.primary.specs.Parts.{bucketKey, objectKey, ulidKey, identifierKey, fills, textUnder, textsUnder, shapeAt, shapeUnder}
 use Rattle.primary.specs.Parts as part
-use Rattle.records.specs.Record.{blockTag, isKnown, block, contents, toldRows, readRecord}
+use Rattle.pack_list.specs.Lists as list
+use Rattle.pack_list.specs.Lists.{entriesKey, packKey, sourceKey, storedKey, lengthsKey, deltasKey, startKey, range, eachOf, listAt, rangeAt, entryAt, entriesUnder, anyOf, entryRepeats, listRepeats, allOf, sum, isFilled}
+use Rattle.records.specs.Record.{blockTag, packListTag, isKnown, block, packList, contents, toldRows, readRecord}
 use Rattle.records_model.specs.Alike.{Alike, same, maps, arrays, embedded, next as next-alike, no-values-alike, next-pair as next-pair-alike, no-pairs-alike, swapped, and-further, AlikeRecordValues, same-value}
 use Rattle.records_model.specs.Record.{RecordHeld, recordIn}
+use Rattle.records_model.specs.Written.{plainHeader, heldAlone}
 use Rattle.records_model.specs.AnswersAlike.{AnswersAlike, SameRecord}
 use Rattle.records_model.specs.TwoSites.{records-alike}
 
@@ -75,8 +78,11 @@ abbrev therePart : Value
 therePart = Map (pair (Text identifierKey)
     (Map (pair (Text objectKey) (Text scan) (pair (Text bucketKey) (Text herd) (pair (Text ulidKey) (Text ulid) no-pairs)))) no-pairs)
 
+abbrev identityBytes : List ℕ
+identityBytes = 0x83 ∷ narrow bucketKey ++ narrow herd ++ narrow objectKey ++ narrow scan ++ narrow ulidKey ++ narrow ulid
+
 abbrev herePartBytes : List ℕ
-herePartBytes = 0x81 ∷ narrow identifierKey ++ 0x83 ∷ narrow bucketKey ++ narrow herd ++ narrow objectKey ++ narrow scan ++ narrow ulidKey ++ narrow ulid
+herePartBytes = 0x81 ∷ narrow identifierKey ++ identityBytes
 
 abbrev therePartBytes : List ℕ
 therePartBytes = 0x81 ∷ narrow identifierKey ++ 0xde ∷ 0 ∷ 3 ∷ wide objectKey ++ narrow scan ++ narrow bucketKey ++ wide herd ++ narrow ulidKey ++ narrow ulid
@@ -113,6 +119,52 @@ abbrev pub twiceBytes : ℕ → ℕ → List ℕ
 twiceBytes first last = 0x83 ∷ narrow primaryKey ++ 0xc4 ∷ length herePartBytes ∷ herePartBytes ++ narrow compressionKey
     ++ first ∷ narrow compressionKey ++ last ∷ []
 
+-- ---- a pack list: {I, P: [{p, o: {l}, t: {s, l}, E, N}]} and {P: [{o: {l}, p, t: {l, s}, E, N}], I}
+
+abbrev number : ℕ → Value
+number n = Integer (plus n)
+
+abbrev listed : Pairs
+listed = pair (Text lengthsKey) (Array (value (number 101) (value (number 101) no-values)))
+    (pair (Text deltasKey) (Array (value (Integer (minus 1)) no-values)) no-pairs)
+
+abbrev source : Value
+source = Map (pair (Text list.lengthKey) (number 36) no-pairs)
+
+abbrev hereEntry : Value
+hereEntry =
+    Map (pair (Text packKey) (Text ulid)
+    (pair (Text sourceKey) source
+    (pair (Text storedKey) (Map (pair (Text startKey) (number 7) (pair (Text list.lengthKey) (number 303) no-pairs))) listed)))
+
+abbrev thereEntry : Value
+thereEntry =
+    Map (pair (Text sourceKey) source
+    (pair (Text packKey) (Text ulid)
+    (pair (Text storedKey) (Map (pair (Text list.lengthKey) (number 303) (pair (Text startKey) (number 7) no-pairs))) listed)))
+
+abbrev hereList : Value
+hereList = Map (pair (Text identifierKey) (Map hereIdentity) (pair (Text entriesKey) (Array (value hereEntry no-values)) no-pairs))
+
+abbrev thereList : Value
+thereList = Map (pair (Text entriesKey) (Array (value thereEntry no-values)) (pair (Text identifierKey) (Map hereIdentity) no-pairs))
+
+abbrev hereListBytes : List ℕ
+hereListBytes = 0x82 ∷ narrow identifierKey ++ identityBytes ++ narrow entriesKey ++ 0x91 ∷ 0x85 ∷ narrow packKey ++ narrow ulid
+    ++ narrow sourceKey ++ 0x81 ∷ narrow list.lengthKey ++ 36 ∷ narrow storedKey ++ 0x82 ∷ narrow startKey ++ 7 ∷ narrow list.lengthKey ++ 0xcd ∷ 1 ∷ 47
+    ∷ narrow lengthsKey ++ 0x92 ∷ 101 ∷ 101 ∷ narrow deltasKey ++ 0x91 ∷ 0xff ∷ []
+
+abbrev thereListBytes : List ℕ
+thereListBytes = 0x82 ∷ wide entriesKey ++ 0xdc ∷ 0 ∷ 1 ∷ 0xde ∷ 0 ∷ 5 ∷ narrow sourceKey ++ 0x81 ∷ narrow list.lengthKey ++ 0xcd ∷ 0 ∷ 36
+    ∷ narrow packKey ++ wide ulid ++ narrow storedKey ++ 0x82 ∷ narrow list.lengthKey ++ 0xcd ∷ 1 ∷ 47 ∷ wide startKey ++ 7
+    ∷ narrow lengthsKey ++ 0x92 ∷ 0xcc ∷ 101 ∷ 101 ∷ narrow deltasKey ++ 0x91 ∷ 0xff ∷ narrow identifierKey ++ identityBytes
+
+abbrev hereListHeader : List ℕ
+hereListHeader = 0x81 ∷ narrow primaryKey ++ 0xc4 ∷ length hereListBytes ∷ hereListBytes
+
+abbrev thereListHeader : List ℕ
+thereListHeader = 0x81 ∷ wide primaryKey ++ 0xc5 ∷ 0 ∷ length thereListBytes ∷ thereListBytes
+
 -- ---- what is read
 
 abbrev answerTo : List ℕ → Answer RecordHeld
@@ -128,12 +180,29 @@ answer primary secondary told =
 abbrev withSecondary : Telling
 withSecondary = record { version = 0; primary = coding 0 false; present = true; length = 2; secondary = coding 7 false }
 
+abbrev listAnswerTo : List ℕ → Answer RecordHeld
+listAnswerTo s = recordIn s (readRecord limit packListTag s)
+
+abbrev listAnswer : List ℕ → Answer RecordHeld
+listAnswer primary =
+    result (record {
+      held = heldAlone primary;
+      contents =
+          record {
+            identifier = identity ulid herd scan;
+            kind =
+                packList (record { pack = ulid; source = range 0 36; stored = range 7 303; lengths = 101 ∷ 101 ∷ []; deltas = minus 1 ∷ [] } ∷ []);
+          };
+    })
+
 pub record Computed : Type 0 where
   pub here : answerTo (hereBytes ++ secondary) ≡ answer herePartBytes secondary withSecondary
   pub there : answerTo (thereBytes ++ secondary) ≡ answer therePartBytes secondary withSecondary
   pub twice-integers : answerTo (twiceBytes 1 0) ≡ refused 22
   pub nil-first : answerTo (twiceBytes 0xc0 0) ≡ refused 22
   pub nil-last : answerTo (twiceBytes 0 0xc0) ≡ refused 11
+  pub list-here : listAnswerTo hereListHeader ≡ listAnswer hereListBytes
+  pub list-there : listAnswerTo thereListHeader ≡ listAnswer thereListBytes
 
 pub computed : Computed
 unfolding readRecord reading passItem passHead headOf numberAt holds formatOf passItems big little formats bytes.header
@@ -141,7 +210,17 @@ unfolding readRecord reading passItem passHead headOf numberAt holds formatOf pa
     bytes.withMap itemsFrom bytesUnder lastValue lastWhere keyAt sameBytes contentAt isWhole naturalUnder readInteger
     integerOf isThere countAt lowest toldRows isKnown contents part.block fills shapeUnder shapeAt textAt textsUnder
     textUnder identityOf isValid isUlid isCharacter alphabet isBucket isObject sized member all bigBytes littleBytes
-computed = record { here = refl; there = refl; twice-integers = refl; nil-first = refl; nil-last = refl }
+    list.packList eachOf listAt rangeAt entryAt entriesUnder anyOf entryRepeats listRepeats allOf sum list.isShort isFilled
+computed =
+    record {
+      here = refl;
+      there = refl;
+      twice-integers = refl;
+      nil-first = refl;
+      nil-last = refl;
+      list-here = refl;
+      list-there = refl;
+    }
 
 -- ---- these are encodings
 
@@ -161,14 +240,16 @@ pub wide-text : (t : List ℕ) → isShort 256 t ≡ true → Encodes (Text t) (
 unfolding isShort
 wide-text t e = let p = both (ltb (length t) 256) _ e in scalar (text (str8 (number-written 1 (length t) (ltb-true _ _ (p .0)))) (all-bytes t (p .1)))
 
+identity-written : Encodes (Map hereIdentity) identityBytes
+unfolding isShort all
+identity-written =
+    map (fixmap 3 (omega arith)) (next-pair (narrow-text bucketKey refl) (narrow-text herd refl)
+    (next-pair (narrow-text objectKey refl) (narrow-text scan refl)
+    (next-pair (narrow-text ulidKey refl) (narrow-text ulid refl) no-pair)))
+
 here-part : Encodes herePart herePartBytes
 unfolding isShort all
-here-part =
-    map (fixmap 1 (omega arith)) (next-pair (narrow-text identifierKey refl)
-    (map (fixmap 3 (omega arith)) (next-pair (narrow-text bucketKey refl) (narrow-text herd refl)
-    (next-pair (narrow-text objectKey refl) (narrow-text scan refl)
-    (next-pair (narrow-text ulidKey refl) (narrow-text ulid refl) no-pair))))
-    no-pair)
+here-part = map (fixmap 1 (omega arith)) (next-pair (narrow-text identifierKey refl) identity-written no-pair)
 
 there-part : Encodes therePart therePartBytes
 unfolding isShort all bigBytes littleBytes
@@ -207,6 +288,53 @@ twice-header x y =
     (scalar (binary (bin8 (number-written 1 (length herePartBytes) (omega arith))) (all-bytes herePartBytes refl)))
     (next-pair (narrow-text compressionKey refl) x (next-pair (narrow-text compressionKey refl) y no-pair)))
 
+small : (n : ℕ) → ltb n 128 ≡ true → Encodes (number n) (n ∷ [])
+small n e = scalar (positive-fixint n (ltb-true n 128 e))
+
+minus-one : Encodes (Integer (minus 1)) (0xff ∷ [])
+minus-one = scalar (negative-fixint 31 1 (omega arith) refl)
+
+here-list : Encodes hereList hereListBytes
+unfolding isShort all bigBytes littleBytes
+here-list =
+    map (fixmap 2 (omega arith)) (next-pair (narrow-text identifierKey refl) identity-written
+    (next-pair (narrow-text entriesKey refl)
+    (array (fixarray 1 (omega arith)) (next
+    (map (fixmap 5 (omega arith)) (next-pair (narrow-text packKey refl) (narrow-text ulid refl)
+    (next-pair (narrow-text sourceKey refl) (map (fixmap 1 (omega arith)) (next-pair (narrow-text list.lengthKey refl) (small 36 refl) no-pair))
+    (next-pair (narrow-text storedKey refl) (map (fixmap 2 (omega arith)) (next-pair (narrow-text startKey refl) (small 7 refl)
+    (next-pair (narrow-text list.lengthKey refl) (scalar (uint16 (number-written 2 303 (omega arith)))) no-pair)))
+    (next-pair (narrow-text lengthsKey refl) (array (fixarray 2 (omega arith)) (next (small 101 refl) (next (small 101 refl) none)))
+    (next-pair (narrow-text deltasKey refl) (array (fixarray 1 (omega arith)) (next minus-one none)) no-pair)))))) none)) no-pair))
+
+there-list : Encodes thereList thereListBytes
+unfolding isShort all bigBytes littleBytes
+there-list =
+    map (fixmap 2 (omega arith)) (next-pair (wide-text entriesKey refl)
+    (array (array16 (number-written 2 1 (omega arith))) (next
+    (map (map16 (number-written 2 5 (omega arith))) (next-pair (narrow-text sourceKey refl)
+    (map (fixmap 1 (omega arith)) (next-pair (narrow-text list.lengthKey refl) (scalar (uint16 (number-written 2 36 (omega arith)))) no-pair))
+    (next-pair (narrow-text packKey refl) (wide-text ulid refl)
+    (next-pair (narrow-text storedKey refl) (map (fixmap 2 (omega arith))
+    (next-pair (narrow-text list.lengthKey refl) (scalar (uint16 (number-written 2 303 (omega arith))))
+    (next-pair (wide-text startKey refl) (small 7 refl) no-pair)))
+    (next-pair (narrow-text lengthsKey refl)
+    (array (fixarray 2 (omega arith)) (next (scalar (uint8 (number-written 1 101 (omega arith)))) (next (small 101 refl) none)))
+    (next-pair (narrow-text deltasKey refl) (array (fixarray 1 (omega arith)) (next minus-one none)) no-pair)))))) none))
+    (next-pair (narrow-text identifierKey refl) identity-written no-pair))
+
+here-list-header : Encodes (plainHeader hereListBytes) hereListHeader
+unfolding isShort all bigBytes littleBytes
+here-list-header =
+    map (fixmap 1 (omega arith)) (next-pair (narrow-text primaryKey refl)
+    (scalar (binary (bin8 (number-written 1 (length hereListBytes) (omega arith))) (all-bytes hereListBytes refl))) no-pair)
+
+there-list-header : Encodes (plainHeader thereListBytes) thereListHeader
+unfolding isShort all bigBytes littleBytes
+there-list-header =
+    map (fixmap 1 (omega arith)) (next-pair (wide-text primaryKey refl)
+    (scalar (binary (bin16 (number-written 2 (length thereListBytes) (omega arith))) (all-bytes thereListBytes refl))) no-pair)
+
 -- ---- the theorem applies to the two sites
 
 sites-alike : Alike hereHeader thereHeader
@@ -217,6 +345,24 @@ sites-alike =
 
 pub sites-read-alike : AnswersAlike SameRecord (answerTo (hereBytes ++ secondary)) (answerTo (thereBytes ++ secondary))
 sites-read-alike = records-alike limit blockTag here-header there-header sites-alike secondary
+
+entries-alike : Alike hereEntry thereEntry
+entries-alike =
+    maps (and-further (swapped _ _ _ _ _)
+    (next-pair-alike (same _) (same _) (next-pair-alike (same _) (same _)
+    (next-pair-alike (same _) (maps (swapped _ _ _ _ no-pairs))
+    (next-pair-alike (same _) (same _) (next-pair-alike (same _) (same _) no-pairs-alike))))))
+
+lists-alike : Alike hereList thereList
+lists-alike =
+    maps (and-further (swapped _ _ _ _ no-pairs)
+    (next-pair-alike (same _) (arrays (next-alike entries-alike no-values-alike)) (next-pair-alike (same _) (same _) no-pairs-alike)))
+
+pub lists-read-alike : AnswersAlike SameRecord (listAnswerTo hereListHeader) (listAnswerTo thereListHeader)
+unfolding bigBytes littleBytes
+lists-read-alike =
+    records-alike limit packListTag here-list-header there-list-header
+    (maps (next-pair-alike (same _) (embedded here-list there-list lists-alike) no-pairs-alike)) []
 
 pub twice-alike : (first last : Value) → Alike (twice first last) (twice last first)
 twice-alike first last = maps (next-pair-alike (same _) (same _) (swapped _ _ _ _ no-pairs))

@@ -1,4 +1,5 @@
--- The primary parts of blocks, versions and version deletes as values, and that every encoding of them is read so. The rules are those of crate primary.
+-- The primary parts of blocks, versions, version deletes and pack lists as values, and that every encoding of them is read so. The rules are those of
+-- crates primary and pack_list.
 use Prim.Native.Nat.{ℕ, _≤_}
 use mathlib.Core.Bool.{Bool, true, false, cond}
 use mathlib.Core.List.{List, [], append-nil}
@@ -18,6 +19,9 @@ use Rattle.identifier.specs.Identity.{Identity}
 use Rattle.primary.specs.Parts as bytes
 use Rattle.primary.specs.Parts.{fills, identityKeys, blockKeys, versionKeys, versionDeleteKeys, blockSeen, Version, versionSeen, VersionDelete, versionDeleteSeen}
 use Rattle.primary.specs.PartsAlike.{block-alike, version-alike, version-delete-alike}
+use Rattle.pack_list.specs.Lists as list
+use Rattle.pack_list.specs.Lists.{PackList, packListSeen}
+use Rattle.pack_list.specs.ListsAlike.{list-alike}
 
 -- ---- what the value p tells as a primary part
 
@@ -32,6 +36,9 @@ version p = ifShallow p (versionSeen valueView p)
 
 unfoldable pub versionDelete : Value → Answer VersionDelete
 versionDelete p = ifShallow p (versionDeleteSeen valueView p)
+
+unfoldable pub packList : Value → Answer PackList
+packList p = ifShallow p (packListSeen valueView p)
 
 -- ---- every encoding is read so
 
@@ -66,3 +73,7 @@ module _ {p : Value} {e : List ℕ} (x : Encodes p e) where
   unfolding bytes.versionDelete versionDelete
   version-delete-reads = by-shallow x _ _
       λ d. version-delete-alike byteView valueView Shows bytes-alike e p (shown x d) (keys-alike versionDeleteKeys (shown x d))
+
+  pub pack-list-reads : list.packList e ≡ packList p
+  unfolding list.packList packList
+  pack-list-reads = by-shallow x _ _ λ d. list-alike byteView valueView Shows bytes-alike (λ ks a b y. keys-alike ks y) e p (shown x d)

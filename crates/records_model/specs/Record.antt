@@ -1,4 +1,4 @@
--- A record by what its header and primary part tell as values: refusals 10 to 18 over the data model.
+-- A record by what its header and primary part tell as values: refusals 10 to 18, 21 and 22 over the data model.
 use Prim.Native.Nat.{ℕ}
 use mathlib.Core.Bool.{cond}
 use mathlib.Core.List.{List, _++_}
@@ -13,10 +13,10 @@ use Rattle.msgpack_model.specs.Encoding.{Encodes}
 use Rattle.value.specs.Header.{tellingOf}
 use Rattle.value.specs.Reading.{reading}
 use Rattle.value.specs.declared.Told.{Told}
-use Rattle.records.specs.Record.{blockTag, versionTag, Contents, ofBlock, ofVersion, ofVersionDelete, contents, Record, toldRows, primaryIn, withTold, byValue, readRecord}
+use Rattle.records.specs.Record.{blockTag, versionTag, versionDeleteTag, Contents, ofBlock, ofVersion, ofVersionDelete, ofPackList, contents, Record, toldRows, primaryIn, withTold, byValue, readRecord}
 use Rattle.records_model.specs.Header.{Held, holds}
 use Rattle.records_model.specs.HeaderReads.{heldIn, answerIn, value-reads}
-use Rattle.records_model.specs.Primary.{block, version, versionDelete, block-reads, version-reads, version-delete-reads}
+use Rattle.records_model.specs.Primary.{block, version, versionDelete, packList, block-reads, version-reads, version-delete-reads, pack-list-reads}
 
 -- ---- the primary part p of a record with this tag, which is a known one
 
@@ -24,11 +24,12 @@ unfoldable pub contentsOf : ℕ → Value → Answer Contents
 contentsOf tag p =
     cond (eqb tag blockTag) (ofBlock (block p))
     (cond (eqb tag versionTag) (ofVersion (version p))
-    (ofVersionDelete (versionDelete p)))
+    (cond (eqb tag versionDeleteTag) (ofVersionDelete (versionDelete p))
+    (ofPackList (packList p))))
 
 pub contents-reads : (tag : ℕ) {p : Value} {e : List ℕ} → Encodes p e → contents tag e ≡ contentsOf tag p
 unfolding contents contentsOf
-contents-reads tag x = rw (block-reads x, version-reads x, version-delete-reads x)
+contents-reads tag x = rw (block-reads x, version-reads x, version-delete-reads x, pack-list-reads x)
 
 -- ---- what a record holds, with no places
 

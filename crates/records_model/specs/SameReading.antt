@@ -1,6 +1,6 @@
 -- What is read of a header and of a primary part is the same in values alike: in both the same keys repeat, and where none does all is read alike.
 use Prim.Native.Nat.{ℕ}
-use mathlib.Core.Bool.{Bool, true, false, cond}
+use mathlib.Core.Bool.{Bool, true, false, cond, _||_}
 use mathlib.Core.List.{List}
 use mathlib.Core.Option.{Option, none, some}
 use mathlib.Core.Path.{_≡_, refl, sym, ap, _∙_}
@@ -17,9 +17,12 @@ use Rattle.value.specs.Header.{primaryKey, headerKeys, secondaryKey, Telling, t
 use Rattle.value.specs.HeadersAlike.{header-repeats-alike, once-telling-alike}
 use Rattle.primary.specs.Parts.{deleteIdKey, versionKeys, versionDeleteKeys, textUnder, textsUnder, deletedUnder, Shape, shapeUnder, blockBy, versionBy, versionDeleteBy, blockRepeats}
 use Rattle.primary.specs.PartsAlike.{block-repeats-alike, once-block-alike, once-version-alike, once-version-delete-alike}
+use Rattle.pack_list.specs.Lists.{Entry, entriesUnder, packListBy}
+use Rattle.pack_list.specs.Lists as list
+use Rattle.pack_list.specs.ListsAlike.{list-repeats-alike, once-list-alike}
 use Rattle.records_model.specs.Alike.{Alike, AlikeBytes, same-depth, alike-binary, seen-alike}
 use Rattle.records_model.specs.Header.{bytesUnder, header}
-use Rattle.records_model.specs.Primary.{ifShallow, block, version, versionDelete}
+use Rattle.records_model.specs.Primary.{ifShallow, block, version, versionDelete, packList}
 use Rattle.records_model.specs.AnswersAlike.{AnswersAlike, same-refusal, both-read, in-header, in-part, same-answers, Refuses, by-type, by-22, both-refuse}
 
 -- ---- the header
@@ -95,6 +98,11 @@ delete-refuses (some t) (some d) = by-22
 delete-refuses (some t) none = by-type
 delete-refuses none d = by-type
 
+list-refuses : (s : Option Shape) (es : Option (List Entry)) → Refuses 17 (packListBy s es true)
+list-refuses (some s) (some es) = by-22
+list-refuses (some s) none = by-type
+list-refuses none es = by-type
+
 module _ {p q : Value} (x : Alike p q) where
   pub same-block : AnswersAlike (λ i j. i ≡ j) (block p) (block q)
   unfolding block
@@ -127,3 +135,14 @@ module _ {p q : Value} (x : Alike p q) where
       (delete-refuses (textsUnder valueView q) (textUnder valueView deleteIdKey q))
       (λ e. once-version-delete-alike valueView valueView Alike seen-alike p q x e
       ∙ ap (versionDeleteBy (textsUnder valueView q) (textUnder valueView deleteIdKey q)) (sym r))))
+
+  pub same-pack-list : AnswersAlike (λ i j. i ≡ j) (packList p) (packList q)
+  unfolding packList
+  same-pack-list =
+      let r = list-repeats-alike valueView valueView Alike seen-alike p q x in
+      shallow x _ _
+      (rw (← r) (either-way (packListBy (shapeUnder valueView p) (entriesUnder valueView p)) (packListBy (shapeUnder valueView q) (entriesUnder valueView q))
+      (blockRepeats valueView p || list.listRepeats valueView p)
+      (list-refuses (shapeUnder valueView p) (entriesUnder valueView p)) (list-refuses (shapeUnder valueView q) (entriesUnder valueView q))
+      (λ e. once-list-alike valueView valueView Alike seen-alike p q x e
+      ∙ ap (packListBy (shapeUnder valueView q) (entriesUnder valueView q)) (sym r))))

@@ -13,13 +13,13 @@ use Rattle.msgpack_model.specs.Values.{Value, depth}
 use Rattle.identifier.specs.Identity.{Identity}
 use Rattle.value.specs.Header.{Telling, Header}
 use Rattle.primary.specs.Parts as primary
-use Rattle.records.specs.Record.{blockTag, versionTag, Contents, ofBlock, ofVersion, ofVersionDelete, contents, toldRows}
+use Rattle.records.specs.Record.{blockTag, versionTag, versionDeleteTag, Contents, ofBlock, ofVersion, ofVersionDelete, ofPackList, contents, toldRows}
 use Rattle.records_model.specs.Alike.{Alike, AlikeBytes, same-bytes, encodings, same-depth}
 use Rattle.records_model.specs.Header.{Held, filledBy, holds}
-use Rattle.records_model.specs.Primary.{block, version, versionDelete}
+use Rattle.records_model.specs.Primary.{block, version, versionDelete, packList}
 use Rattle.records_model.specs.Record.{contentsOf, contents-reads, withHeld, byHeld, recordHolds}
 use Rattle.records_model.specs.AnswersAlike.{AnswersAlike, same-refusal, first-22, second-22, both-read, same-answers, SameHeld, SameRecord}
-use Rattle.records_model.specs.SameReading.{SameHeader, same-header, same-block, same-version, same-version-delete}
+use Rattle.records_model.specs.SameReading.{SameHeader, same-header, same-block, same-version, same-version-delete, same-pack-list}
 
 -- ---- the value
 
@@ -53,14 +53,16 @@ through f (both-read {a = a} {b = b} e) g r s = rw (r a, r b) (both-read (ap f e
 
 same-contents-of : {p q : Value} → Alike p q → (tag : ℕ) → AnswersAlike (λ c d. c ≡ d) (contentsOf tag p) (contentsOf tag q)
 unfolding contentsOf
-same-contents-of {p} {q} x tag = by (eqb tag blockTag) (eqb tag versionTag)
+same-contents-of {p} {q} x tag = by (eqb tag blockTag) (eqb tag versionTag) (eqb tag versionDeleteTag)
   where
-    by : (a b : Bool)
-        → AnswersAlike (λ (c d : Contents). c ≡ d) (cond a (ofBlock (block p)) (cond b (ofVersion (version p)) (ofVersionDelete (versionDelete p))))
-        (cond a (ofBlock (block q)) (cond b (ofVersion (version q)) (ofVersionDelete (versionDelete q))))
-    by true b = through _ (same-block x) ofBlock (λ c. refl) (λ n. refl)
-    by false true = through _ (same-version x) ofVersion (λ c. refl) (λ n. refl)
-    by false false = through _ (same-version-delete x) ofVersionDelete (λ c. refl) (λ n. refl)
+    by : (a b d : Bool)
+        → AnswersAlike (λ (c e : Contents). c ≡ e)
+        (cond a (ofBlock (block p)) (cond b (ofVersion (version p)) (cond d (ofVersionDelete (versionDelete p)) (ofPackList (packList p)))))
+        (cond a (ofBlock (block q)) (cond b (ofVersion (version q)) (cond d (ofVersionDelete (versionDelete q)) (ofPackList (packList q)))))
+    by true b d = through _ (same-block x) ofBlock (λ c. refl) (λ n. refl)
+    by false true d = through _ (same-version x) ofVersion (λ c. refl) (λ n. refl)
+    by false false true = through _ (same-version-delete x) ofVersionDelete (λ c. refl) (λ n. refl)
+    by false false false = through _ (same-pack-list x) ofPackList (λ c. refl) (λ n. refl)
 
 same-contents : (tag : ℕ) {e f : List ℕ} → AlikeBytes e f → AnswersAlike (λ c d. c ≡ d) (contents tag e) (contents tag f)
 same-contents tag (same-bytes e) = same-answers (contents tag e)

@@ -8,13 +8,14 @@ use Rattle.msgpack_model.specs.Values.{Value}
 use Rattle.msgpack_model.specs.Encoding.{Encodes}
 use Rattle.value.specs.Reading.{reading}
 use Rattle.primary.specs.Parts as bytes
+use Rattle.pack_list.specs.Lists as list
 use Rattle.records.specs.Record.{Record, readRecord}
 use Rattle.records_model.specs.Alike.{Alike, same-bytes, AlikeRecordValues, same-value, headers}
 use Rattle.records_model.specs.HeaderReads.{answerIn, value-reads}
-use Rattle.records_model.specs.Primary.{block-reads, version-reads, version-delete-reads}
+use Rattle.records_model.specs.Primary.{block-reads, version-reads, version-delete-reads, pack-list-reads}
 use Rattle.records_model.specs.Record.{recordIn, record-reads}
 use Rattle.records_model.specs.AnswersAlike.{AnswersAlike, same-refusal, both-read, SameHeld, SameRecord}
-use Rattle.records_model.specs.SameReading.{same-block, same-version, same-version-delete}
+use Rattle.records_model.specs.SameReading.{same-block, same-version, same-version-delete, same-pack-list}
 use Rattle.records_model.specs.SameRecords.{same-held, same-records}
 
 -- ---- values
@@ -34,6 +35,9 @@ module _ {p q : Value} {e f : List ℕ} (x : Encodes p e) (y : Encodes q f) (z :
 
   pub version-deletes-alike : AnswersAlike (λ i j. i ≡ j) (bytes.versionDelete e) (bytes.versionDelete f)
   version-deletes-alike = rw (version-delete-reads x, version-delete-reads y) (same-version-delete z)
+
+  pub pack-lists-alike : AnswersAlike (λ i j. i ≡ j) (list.packList e) (list.packList f)
+  pack-lists-alike = rw (pack-list-reads x, pack-list-reads y) (same-pack-list z)
 
 -- ---- records
 

@@ -73,7 +73,7 @@ pub enum Reading {
 // ---- what stands under a key of a map, by the place told of it: 0 where the key is missing
 
 // The integer of at least 0 at the front of s.
-fn natural_at(s: &[u8]) -> Number
+pub fn natural_at(s: &[u8]) -> Number
     ensures { λ r. ⌜ numberRead r ≡ readNatural (now (s .entry)) ⌝ }
 {
     match msgpack::read_integer(s) {
@@ -84,14 +84,13 @@ fn natural_at(s: &[u8]) -> Number
 }
 
 // The integer of at least 0 under a key; absent, where the key is missing.
-fn natural_under(map: &[u8], place: usize, absent: Number) -> Number
-    requires { ⌜ place ≤ length (now map) ⌝ }
+pub fn natural_under(map: &[u8], place: usize, absent: Number) -> Number
     ensures { λ r. ⌜ numberRead r ≡ atPlace (numberRead absent) (λ p. readNatural (drop p (now (map .entry)))) (placeTold place) ⌝ }
 {
     if place == 0 {
         return absent;
     }
-    natural_at(&map[place..])
+    natural_at(slices::from(map, place))
 }
 
 // The bytes at a place; what is told of them is counted from the front of the map.

@@ -13,13 +13,14 @@ use Rattle.refusals.specs.Limit.{packLimit}
 use Rattle.refusals.specs.Answers.{result, refused}
 use Rattle.tlv.specs.Layout.{layout, length-layout}
 use Rattle.writer.specs.Values.{blockHeader, blockPart, blockValue, partHeader, partValue, deletePart}
-use Rattle.writer.specs.Writing.{Item, block, version, versionDelete, deletion, tagOf, valueOf, recordOf, itemBytes, admitted, counted, written}
+use Rattle.writer.specs.Writing.{Item, block, version, versionDelete, packList, deletion, tagOf, valueOf, recordOf, itemBytes, admitted, counted, written}
 
 -- what has no bound of its own: a block's data, or a primary part
 abbrev pub contentOf : Item → List ℕ
 contentOf (block i d) = d
 contentOf (version p) = p
 contentOf (versionDelete p) = p
+contentOf (packList p) = p
 contentOf (deletion i u) = deletePart i u
 
 part-within : (p : List ℕ) → length p ≤ length (partValue p)
@@ -31,6 +32,7 @@ unfolding blockValue
 content-within (block i d) = omega (arith, length-append (blockHeader (length d) (length (blockPart i)) ++ blockPart i) d)
 content-within (version p) = part-within p
 content-within (versionDelete p) = part-within p
+content-within (packList p) = part-within p
 content-within (deletion i u) = part-within (deletePart i u)
 
 module _ (limit room used : ℕ) where

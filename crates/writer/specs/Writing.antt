@@ -13,7 +13,8 @@ use Rattle.tlv.specs.Layout.{Record, layout}
 use Rattle.identifier.specs.Ulid.{isUlid}
 use Rattle.identifier.specs.Identity.{Identity, isValid}
 use Rattle.primary.specs.Parts as primary
-use Rattle.records.specs.Record.{blockTag, versionTag, versionDeleteTag}
+use Rattle.pack_list.specs.Lists as list
+use Rattle.records.specs.Record.{blockTag, versionTag, versionDeleteTag, packListTag}
 use Rattle.writer.specs.Values.{blockValue, partValue, deletePart}
 use Rattle.writer.specs.declared.Written.{Written}
 use Rattle.writer.specs.declared.Written.the-variants.{Count, Short, Inadmissible}
@@ -24,18 +25,21 @@ pub data Item : Type 0 where
   block : Identity → List ℕ → Item  -- with its data
   version : List ℕ → Item  -- a primary part handed in
   versionDelete : List ℕ → Item  -- likewise
+  packList : List ℕ → Item  -- likewise
   deletion : Identity → List ℕ → Item  -- a version delete made from an identifier and a delete ULID
 
 abbrev pub tagOf : Item → ℕ
 tagOf (block i d) = blockTag
 tagOf (version p) = versionTag
 tagOf (versionDelete p) = versionDeleteTag
+tagOf (packList p) = packListTag
 tagOf (deletion i u) = versionDeleteTag
 
 abbrev pub valueOf : Item → List ℕ
 valueOf (block i d) = blockValue i d
 valueOf (version p) = partValue p
 valueOf (versionDelete p) = partValue p
+valueOf (packList p) = partValue p
 valueOf (deletion i u) = partValue (deletePart i u)
 
 -- the record's bytes; bytes 28 and 29 are 0
@@ -51,6 +55,7 @@ abbrev pub admitted : Item → Bool
 admitted (block i d) = isValid i
 admitted (version p) = isResult (primary.version p)
 admitted (versionDelete p) = isResult (primary.versionDelete p)
+admitted (packList p) = isResult (list.packList p)
 admitted (deletion i u) = isValid i && isUlid u
 
 -- what an identifier's struct asks for; nothing, where it names none

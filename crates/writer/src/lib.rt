@@ -19,8 +19,9 @@ ghost use Rattle.identifier.specs.Held.{named};
 ghost use Rattle.records.specs.Record.{blockTag, versionDeleteTag};
 ghost use Rattle.writer.specs.Values.{textItem, pair, primaryHeader, secondaryHeader, blockHeader, partHeader, blockPart, blockValue, partValue, identityPairs, deletePart};
 ghost use Rattle.writer.specs.Putting.{Puts, toldPlace, fieldBytes};
-ghost use Rattle.writer.specs.Writing.{block, version, versionDelete, deletion, recordOf, ofIdentity, answerOf, counted, Stores, written, bufferAfter};
+ghost use Rattle.writer.specs.Writing.{block, version, versionDelete, packList, deletion, recordOf, ofIdentity, answerOf, counted, Stores, written, bufferAfter};
 use identifier::Identifier;
+use pack_list::Reading;
 use primary::DeleteRead;
 use primary::VersionRead;
 use tlv::RecordHeader;
@@ -461,6 +462,17 @@ pub fn write_delete(buf: &mut [u8], used: usize, part: &[u8]) -> Written
     match primary::read_delete(part) {
         DeleteRead::Read(_, _) => store_part(buf, used, records::VERSION_DELETE, part),
         DeleteRead::Fault(_) => Written::Inadmissible,
+    }
+}
+
+// A pack list, from its primary part.
+pub fn write_pack_list(buf: &mut [u8], used: usize, part: &[u8]) -> Written
+    ensures answer { λ r. ⌜ answerOf r ≡ written packLimit (length (now (buf .entry))) used (some (packList (now (part .entry)))) ⌝ }
+    ensures buffer { λ _. ⌜ now (buf .exit) ≡ bufferAfter packLimit used (some (packList (now (part .entry)))) (now (buf .entry)) ⌝ }
+{
+    match pack_list::read(part) {
+        Reading::List(_) => store_part(buf, used, records::PACK_LIST, part),
+        Reading::Refused(_) => Written::Inadmissible,
     }
 }
 

@@ -3,3 +3,6 @@ pub mod Meaning
 pub mod Calls
 pub mod Refusals
 pub mod Shortest
+pub mod ReadBack
+pub mod Added
+pub mod TellsApart

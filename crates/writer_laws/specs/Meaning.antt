@@ -14,22 +14,24 @@ use Rattle.identifier.specs.Identity.{Identity, isValid}
 use Rattle.identifier.specs.Composite.{compositeText}
 use Rattle.identifier.specs.Ulid.{isUlid}
 use Rattle.primary.specs.Parts as primary
+use Rattle.pack_list.specs.Lists as list
 use Rattle.records.specs.Record as records
-use Rattle.records.specs.Record.{versionTag, versionDeleteTag, isKnown, Contents, ofVersion, ofVersionDelete, contents, readRecord}
+use Rattle.records.specs.Record.{versionTag, versionDeleteTag, packListTag, isKnown, Contents, ofVersion, ofVersionDelete, ofPackList, contents, readRecord}
 use Rattle.records_model.specs.Record.{RecordHeld, recordIn, withHeld}
 use Rattle.records_model.specs.Written as values
 use Rattle.records_model.specs.Written.{heldAlone, heldWith, plain-reads-back, block-reads-back, delete-reads-back}
 use Rattle.writer.specs.Values.{blockHeader, blockPart, blockValue, partValue, deletePart}
-use Rattle.writer.specs.Writing.{Item, block, version, versionDelete, deletion, tagOf, valueOf, admitted}
+use Rattle.writer.specs.Writing.{Item, block, version, versionDelete, packList, deletion, tagOf, valueOf, admitted}
 use Rattle.writer.specs.Limits.{content-within}
 use Rattle.writer_laws.specs.Encoded.{part-value-encodes, block-header-encodes, block-part-encodes, IdentityBytes, delete-part-encodes}
 
--- ---- the meaning: primary part, data, identifier, and delete flag or delete identifier
+-- ---- the meaning: primary part, data, identifier, and delete flag, delete identifier or entries
 
 abbrev pub heldOf : Item → Answer RecordHeld
 heldOf (block i d) = result (record { held = heldWith (blockPart i) d; contents = record { identifier = i; kind = records.block } })
 heldOf (version p) = withHeld (heldAlone p) (ofVersion (primary.version p))
 heldOf (versionDelete p) = withHeld (heldAlone p) (ofVersionDelete (primary.versionDelete p))
+heldOf (packList p) = withHeld (heldAlone p) (ofPackList (list.packList p))
 heldOf (deletion i u) = result (record { held = heldAlone (deletePart i u); contents = record { identifier = i; kind = records.versionDelete u } })
 
 -- what is handed in is bytes
@@ -37,6 +39,7 @@ abbrev pub AreBytes : Item → Type 0
 AreBytes (block i d) = IdentityBytes i × AllBytes d
 AreBytes (version p) = AllBytes p
 AreBytes (versionDelete p) = AllBytes p
+AreBytes (packList p) = AllBytes p
 AreBytes (deletion i u) = IdentityBytes i × AllBytes u
 
 -- ---- lengths
@@ -98,6 +101,16 @@ module _ (limit : ℕ) (small : limit < 2 ^ 32) where
             (record { identifier = v .identifier; kind = records.versionDelete (v .deleteId) }) refl (ap ofVersionDelete e))
         by (refused n) e t = absurd-numbers (cc)
 
+    pack-list-reads : isResult (list.packList p) ≡ true → Reads (packList p)
+    unfolding contents isKnown
+    pack-list-reads a = by (list.packList p) refl a
+      where
+        by : (r : Answer list.PackList) → list.packList p ≡ r → isResult r ≡ true
+            → recordIn (partValue p) (readRecord limit packListTag (partValue p)) ≡ withHeld (heldAlone p) (ofPackList (list.packList p))
+        by (result v) e t = rw e (part-reads packListTag
+            (record { identifier = v .identifier; kind = records.packList (v .entries) }) refl (ap ofPackList e))
+        by (refused n) e t = absurd-numbers (cc)
+
   module _ (i : Identity) (u : List ℕ) (bytes : IdentityBytes i × AllBytes u) (a : (isValid i && isUlid u) ≡ true)
       (l : length (partValue (deletePart i u)) ≤ limit) where
     delete-part : Encodes (values.deletePart i u) (deletePart i u)
@@ -113,10 +126,12 @@ module _ (limit : ℕ) (small : limit < 2 ^ 32) where
   item-bytes (block i d) b a l = block-bytes i d (b .0) a l (b .1)
   item-bytes (version p) b a l = encoding-bytes (part-value p b l)
   item-bytes (versionDelete p) b a l = encoding-bytes (part-value p b l)
+  item-bytes (packList p) b a l = encoding-bytes (part-value p b l)
   item-bytes (deletion i u) b a l = encoding-bytes (part-value (deletePart i u) (encoding-bytes (delete-part i u b a l)) l)
 
   pub item-reads : (item : Item) → AreBytes item → admitted item ≡ true → length (valueOf item) ≤ limit → Reads item
   item-reads (block i d) b a l = block-reads i d (b .0) a l
   item-reads (version p) b a l = version-reads p b l a
   item-reads (versionDelete p) b a l = version-delete-reads p b l a
+  item-reads (packList p) b a l = pack-list-reads p b l a
   item-reads (deletion i u) b a l = deletion-reads i u b a l

@@ -32,6 +32,8 @@ pub const BLOCK: u64 = 0x626B;
 pub const VERSION: u64 = 0x7672;
 /// The tag `vd`.
 pub const VERSION_DELETE: u64 = 0x7664;
+/// The tag `ol`.
+pub const PACK_LIST: u64 = 0x6F6C;
 /// The longest composite text, `ULID:bucket/object`.
 pub const IDENTIFIER_LIMIT: usize = 1115;
 /// The bytes of a record before its value.
@@ -42,7 +44,7 @@ pub const ULID: usize = 26;
 /// Why there is no result.
 #[derive(Clone, Copy, Debug, PartialEq, Eq)]
 pub struct Refusal {
-    /// The number in docs/REFUSALS.md, 1 to 20 or 22.
+    /// The number in docs/REFUSALS.md, 1 to 22.
     pub number: u8,
     /// The start of the record at fault, where the refusal is about a place of the pack.
     pub place: Option<u64>,
@@ -113,7 +115,7 @@ pub struct Value<'a> {
 /// One record, read.
 #[derive(Clone, Copy, Debug, PartialEq, Eq)]
 pub struct Record<'a, 'b> {
-    /// [`BLOCK`], [`VERSION`] or [`VERSION_DELETE`].
+    /// [`BLOCK`], [`VERSION`], [`VERSION_DELETE`] or [`PACK_LIST`].
     pub tag: u64,
     /// The whole value.
     pub bytes: &'a [u8],
@@ -140,6 +142,41 @@ pub struct Current<'a> {
     pub deleted: bool,
 }
 
+/// One entry of a pack list, as [`pack_list`] tells it: which range of the version is stored in which
+/// range of a pack.
+#[derive(Clone, Copy, Debug, Default, PartialEq, Eq)]
+#[repr(C)]
+pub struct PackEntry {
+    /// Where the pack's ULID, of [`ULID`] characters, starts in the primary part.
+    pub ulid: u64,
+    /// The range of the version's data.
+    pub source_start: u64,
+    /// Its length.
+    pub source_length: u64,
+    /// The range of the pack, in which the blocks stand end to end.
+    pub pack_start: u64,
+    /// Its length.
+    pub pack_length: u64,
+    /// How many blocks there are.
+    pub blocks: u64,
+}
+
+/// Where a byte of a version stands.
+#[derive(Clone, Copy, Debug, PartialEq, Eq)]
+pub struct Found<'a> {
+    /// The entry's number in the list, from 0.
+    pub entry: u64,
+    /// The block's number in the entry, from 0; `None` where the entry's lengths place the byte in no
+    /// block.
+    pub block: Option<u64>,
+    /// The pack's ULID.
+    pub ulid: &'a [u8],
+    /// Where the block's record starts in that pack, or where the entry's range does.
+    pub start: u64,
+    /// The length of the record, or of the range.
+    pub length: u64,
+}
+
 /// The XXH64 of the bytes, seed 0.
 pub fn xxh64(bytes: &[u8]) -> u64 {
     raw::xxh64(bytes)
@@ -158,7 +195,7 @@ pub fn scan(pack: &[u8], entries: &mut [Entry]) -> Result<usize, Refusal> {
 
 /// The record at a place of a pack; `identifier` gets its composite text.
 ///
-/// Refused with 1 to 8 and a place, with 9 to 18 or 22, with 19 where `identifier` is too short
+/// Refused with 1 to 8 and a place, with 9 to 18, 21 or 22, with 19 where `identifier` is too short
 /// ([`IDENTIFIER_LIMIT`] always suffices), or with 20 where the place is not inside the pack.
 pub fn record<'a, 'b>(
     pack: &'a [u8],
@@ -213,6 +250,55 @@ pub fn current<'a>(
     }))
 }
 
+/// How many entries a pack list has, by its primary part; `entries` gets them, in order.
+///
+/// Refused with 16 to 18, 21 or 22, or with 19 where `entries` is too short. A list has at most one entry
+/// for each 36 bytes of its primary part.
+pub fn pack_list(primary: &[u8], entries: &mut [PackEntry]) -> Result<usize, Refusal> {
+    // SAFETY: an entry is six numbers, laid out as in C, and any numbers are an entry.
+    let told =
+        unsafe { std::slice::from_raw_parts_mut(entries.as_mut_ptr().cast(), 6 * entries.len()) };
+    word(raw::pack_list(primary, told), |_| false).map(|count| count as usize)
+}
+
+/// The block that holds a byte of the version, by a pack list's primary part; `None` where no entry has
+/// the byte, and the first of them where several do.
+///
+/// The list has no key for the stride, the usual source length of a block: it is taken to be the least
+/// with which the blocks of every entry hold its source range. Of a single entry whose last block is
+/// short that is a guess: 25 bytes in 3 blocks are read as 9, 9 and 7, and may have been 10, 10 and 5.
+///
+/// Refused with 16 to 18, 21 or 22.
+///
+/// ```
+/// // A list with one entry: 36 bytes of the version in 3 blocks, of which 2 lengths are listed.
+/// let primary = b"\x82\xa1I\xd9\x2100000000000000000000000001:herd/k\xa1P\x91\
+///     \x84\xa1p\xba00000000000000000000000002\xa1o\x81\xa1l\x24\xa1t\x81\xa1l\xcd\x01\x2f\
+///     \xa1E\x92\x65\x65";
+/// let mut entries = [vof::PackEntry::default(); 4];
+/// assert_eq!(vof::pack_list(primary, &mut entries)?, 1);
+/// assert_eq!(entries[0].blocks, 3);
+///
+/// let found = vof::find_block(primary, 12)?.unwrap();
+/// assert_eq!((found.entry, found.block), (0, Some(1)));
+/// assert_eq!((found.start, found.length), (101, 101));
+/// assert_eq!(found.ulid, b"00000000000000000000000002");
+/// assert_eq!(vof::find_block(primary, 36)?, None);
+/// # Ok::<(), vof::Refusal>(())
+/// ```
+pub fn find_block(primary: &[u8], byte: u64) -> Result<Option<Found<'_>>, Refusal> {
+    let mut told = [0; 6];
+    word(raw::find_block(primary, byte, &mut told), |_| false)?;
+    let [kind, entry, block, ulid, start, length] = told;
+    Ok((kind > 0).then(|| Found {
+        entry,
+        block: (kind == 2).then_some(block),
+        ulid: range(primary, ulid, ULID as u64),
+        start,
+        length,
+    }))
+}
+
 /// Writes a block after the first `used` bytes of the buffer, and gives the new count of bytes.
 ///
 /// The identifier is composite text. Refused with 20 where it breaks the rules or the pack would be
@@ -236,6 +322,13 @@ pub fn write_version(buffer: &mut [u8], used: usize, primary: &[u8]) -> Result<u
 /// Writes a version delete with this primary part, as [`write_version`] does.
 pub fn write_delete(buffer: &mut [u8], used: usize, primary: &[u8]) -> Result<usize, Refusal> {
     written(raw::write_delete(buffer, used, primary))
+}
+
+/// Writes a pack list with this primary part, as [`write_version`] does.
+///
+/// Refused with 20 where the primary part has a range or lengths that cannot be (21), too.
+pub fn write_pack_list(buffer: &mut [u8], used: usize, primary: &[u8]) -> Result<usize, Refusal> {
+    written(raw::write_pack_list(buffer, used, primary))
 }
 
 /// Writes a version delete that names the version `identifier`, as [`write_block`] does.

@@ -29,6 +29,14 @@ extern "C" {
         ulid: *mut u8,
         ulid_length: usize,
     ) -> u64;
+    fn vof_pack_list(primary: *const u8, length: usize, told: *mut u64, told_length: usize) -> u64;
+    fn vof_find_block(
+        primary: *const u8,
+        length: usize,
+        byte: u64,
+        told: *mut u64,
+        told_length: usize,
+    ) -> u64;
     fn vof_write_block(
         buffer: *mut u8,
         length: usize,
@@ -46,6 +54,13 @@ extern "C" {
         primary_length: usize,
     ) -> u64;
     fn vof_write_delete(
+        buffer: *mut u8,
+        length: usize,
+        used: usize,
+        primary: *const u8,
+        primary_length: usize,
+    ) -> u64;
+    fn vof_write_pack_list(
         buffer: *mut u8,
         length: usize,
         used: usize,
@@ -126,6 +141,34 @@ pub fn current(
     }
 }
 
+/// Word: how many entries. Told of each: where the pack's ULID starts in the primary part; the source
+/// range's start and length; the pack range's; how many blocks.
+pub fn pack_list(primary: &[u8], told: &mut [u64]) -> u64 {
+    unsafe {
+        vof_pack_list(
+            primary.as_ptr(),
+            primary.len(),
+            told.as_mut_ptr(),
+            told.len(),
+        )
+    }
+}
+
+/// Told are 6 numbers: 2 where a block is found, 1 an entry alone; the entry's number, the block's;
+/// where the pack's ULID starts in the primary part; the start and length in the pack of the block's
+/// record, or of the entry alone. Zeros where there is nothing.
+pub fn find_block(primary: &[u8], byte: u64, told: &mut [u64]) -> u64 {
+    unsafe {
+        vof_find_block(
+            primary.as_ptr(),
+            primary.len(),
+            byte,
+            told.as_mut_ptr(),
+            told.len(),
+        )
+    }
+}
+
 /// Word: the new count of bytes.
 pub fn write_block(buffer: &mut [u8], used: usize, identifier: &[u8], data: &[u8]) -> u64 {
     unsafe {
@@ -158,6 +201,19 @@ pub fn write_version(buffer: &mut [u8], used: usize, primary: &[u8]) -> u64 {
 pub fn write_delete(buffer: &mut [u8], used: usize, primary: &[u8]) -> u64 {
     unsafe {
         vof_write_delete(
+            buffer.as_mut_ptr(),
+            buffer.len(),
+            used,
+            primary.as_ptr(),
+            primary.len(),
+        )
+    }
+}
+
+/// Word: the new count of bytes.
+pub fn write_pack_list(buffer: &mut [u8], used: usize, primary: &[u8]) -> u64 {
+    unsafe {
+        vof_write_pack_list(
             buffer.as_mut_ptr(),
             buffer.len(),
             used,

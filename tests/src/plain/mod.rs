@@ -1,11 +1,12 @@
-//! Document 01, with refusal 22 of document 02, as plainly as can be, written from the papers and not from the
-//! proved definitions: their rules, document 001's letters (docs/FORMAT.md), the published specifications of
-//! XXH64 and MessagePack.
+//! Document 01, with requests 1, 2 and 4 of document 02, as plainly as can be, written from the papers and
+//! not from the proved definitions: their rules, document 001's letters (docs/FORMAT.md), the published
+//! specifications of XXH64 and MessagePack.
 
 pub mod identifier;
 pub mod lookup;
 pub mod msgpack;
 pub mod pack;
+pub mod pack_list;
 pub mod record;
 pub mod value;
 pub mod writer;

@@ -2,6 +2,7 @@
 
 use super::identifier::{is_ulid, Identifier};
 use super::msgpack::{read, Item, Span};
+use super::pack_list::read_pack_list;
 use super::value::{read_value, Value};
 use super::{pack, Number, LIMIT};
 use vof::Refusal;
@@ -24,7 +25,7 @@ pub struct Record<'a> {
     pub content: Content<'a>,
 }
 
-fn text<'a>(map: &Item<'a>, key: &str) -> Result<Span<'a>, Number> {
+pub fn text<'a>(map: &Item<'a>, key: &str) -> Result<Span<'a>, Number> {
     match map.get(key) {
         Some(Item::Text(text)) => Ok(*text),
         _ => Err(17),
@@ -42,7 +43,7 @@ fn identifier([ulid, bucket, object]: [Span; 3]) -> Result<Identifier, Number> {
 }
 
 /// The one map that fills the bytes.
-fn whole_map(bytes: &[u8]) -> Result<Item<'_>, Number> {
+pub fn whole_map(bytes: &[u8]) -> Result<Item<'_>, Number> {
     match read(bytes) {
         Ok((map @ Item::Map(_), length)) if length == bytes.len() => Ok(map),
         Ok((_, length)) if length == bytes.len() => Err(17),
@@ -50,27 +51,55 @@ fn whole_map(bytes: &[u8]) -> Result<Item<'_>, Number> {
     }
 }
 
-/// Refusals 16, 17, 22 and 18, in this order; so too below.
-pub fn read_block(bytes: &[u8]) -> Result<Content<'_>, Number> {
-    let map = whole_map(bytes)?;
-    let identifier = match map.get("I") {
-        Some(Item::Text(text)) => {
-            map.once(&["I"])?;
-            Identifier::from_text(text.bytes).ok_or(18)?
+/// The identifier under `I`, in either shape.
+pub enum Named<'i, 'a> {
+    Composite(Span<'a>),
+    Map(&'i Item<'a>, [Span<'a>; 3]),
+}
+
+impl<'i, 'a> Named<'i, 'a> {
+    /// Refusal 17.
+    pub fn under(map: &'i Item<'a>) -> Result<Self, Number> {
+        match map.get("I") {
+            Some(Item::Text(text)) => Ok(Named::Composite(*text)),
+            Some(inner @ Item::Map(_)) => Ok(Named::Map(inner, texts(inner)?)),
+            _ => Err(17),
         }
-        Some(inner @ Item::Map(_)) => {
-            let texts = texts(inner)?;
-            map.once(&["I"])?;
-            inner.once(&["v", "b", "o"])?;
-            identifier(texts)?
+    }
+
+    /// Refusal 22, of the map that it stands in too.
+    pub fn once(&self, map: &Item) -> Result<(), Number> {
+        map.once(&["I"])?;
+        match self {
+            Named::Composite(_) => Ok(()),
+            Named::Map(inner, _) => inner.once(&["v", "b", "o"]),
         }
-        _ => return Err(17),
-    };
-    Ok(Content {
+    }
+
+    /// Refusal 18.
+    pub fn identifier(&self) -> Result<Identifier, Number> {
+        match self {
+            Named::Composite(text) => Identifier::from_text(text.bytes).ok_or(18),
+            Named::Map(_, texts) => identifier(*texts),
+        }
+    }
+}
+
+/// What a primary part says that tells nothing but its identifier.
+fn identified<'a>(identifier: Identifier) -> Content<'a> {
+    Content {
         identifier,
         deleted: false,
         delete_ulid: None,
-    })
+    }
+}
+
+/// Refusals 16, 17, 22 and 18, in this order; so too below.
+pub fn read_block(bytes: &[u8]) -> Result<Content<'_>, Number> {
+    let map = whole_map(bytes)?;
+    let named = Named::under(&map)?;
+    named.once(&map)?;
+    named.identifier().map(identified)
 }
 
 pub fn read_version(bytes: &[u8]) -> Result<Content<'_>, Number> {
@@ -104,13 +133,19 @@ pub fn read_delete(bytes: &[u8]) -> Result<Content<'_>, Number> {
     })
 }
 
-/// Refusals 9 to 18, and 22 before 12 and before 18.
+/// As a record, a pack list tells what a block does. Refusal 21 too, behind 18.
+fn read_list(bytes: &[u8]) -> Result<Content<'_>, Number> {
+    read_pack_list(bytes).map(|list| identified(list.identifier))
+}
+
+/// Refusals 9 to 18, then 21, and 22 before 12 and before 18.
 pub fn read_record(tag: [u8; 2], bytes: &[u8]) -> Result<(Value, Content<'_>), Number> {
     let value = read_value(bytes)?;
     let read_content = match &tag {
         b"bk" => read_block,
         b"vr" => read_version,
         b"vd" => read_delete,
+        b"ol" => read_list,
         _ => return Err(13),
     };
     if value.v != 0 {

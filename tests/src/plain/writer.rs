@@ -2,6 +2,7 @@
 
 use super::identifier::{is_ulid, Identifier};
 use super::pack::record;
+use super::pack_list::read_pack_list;
 use super::record::{read_delete, read_version};
 use super::{Number, LIMIT};
 
@@ -63,6 +64,11 @@ pub fn version(primary: &[u8]) -> Result<Vec<u8>, Number> {
 pub fn delete(primary: &[u8]) -> Result<Vec<u8>, Number> {
     read_delete(primary).map_err(|_| 20)?;
     Ok(with_primary(b"vd", primary))
+}
+
+pub fn pack_list(primary: &[u8]) -> Result<Vec<u8>, Number> {
+    read_pack_list(primary).map_err(|_| 20)?;
+    Ok(with_primary(b"ol", primary))
 }
 
 pub fn delete_of(identifier: &[u8], delete_ulid: &[u8]) -> Result<Vec<u8>, Number> {

@@ -1,9 +1,11 @@
 //! What the papers and the stored vectors say, compared with both implementations.
 
 use crate::compare::Compare;
+use crate::encode::{map, text, Tree};
 use crate::generate::lists;
 use crate::plain::lookup::current;
 use crate::plain::pack::{read_pack, record};
+use crate::plain::pack_list::{find, read_pack_list, Found, Range};
 use crate::plain::value::read_value;
 use crate::plain::writer;
 use crate::plain::xxh64::{generate, xxh64};
@@ -66,6 +68,7 @@ pub fn cases(compare: &mut Compare, _: &mut Random) {
     value(compare, "N, depth 16", &lists(16).shortest(), Err(11));
     value(compare, "N, depth 17", &lists(17).shortest(), Err(10));
     block_of_three(compare);
+    printed_list(compare);
 }
 
 fn block_of_three(compare: &mut Compare) {
@@ -75,6 +78,39 @@ fn block_of_three(compare: &mut Compare) {
     pack(compare, "the block of 3 bytes", &block, Ok(1));
     value(compare, "its value", &block[32..], Ok((38, 3)));
     compare.hold("its length", &[&block], block.len() == 85);
+}
+
+/// The pack list of 001:584, and the blocks of its version's bytes.
+fn printed_list(compare: &mut Compare) {
+    let range = |length| map([("s", Tree::Integer(0)), ("l", Tree::Integer(length))]);
+    let lengths = vec![Tree::Integer(101), Tree::Integer(101)];
+    let entry = map([
+        ("p", text("7YF1QJW74QNR5BZ83NC8307YYM")),
+        ("o", range(36)),
+        ("t", range(303)),
+        ("E", Tree::List(lengths)),
+        ("N", Tree::List(Vec::new())),
+    ]);
+    let part = map([
+        ("I", text("7YF1QJW74PNYV552JB3YPAJJX1:bucket/object")),
+        ("P", Tree::List(vec![entry])),
+    ])
+    .shortest();
+    compare.pack_list(&part);
+    compare.write_pack_list(0, &part);
+    let list = read_pack_list(&part).unwrap();
+    for byte in 0..37 {
+        compare.find_block(&part, byte);
+        let wanted = (byte < 36).then(|| Found {
+            entry: 0,
+            block: Some(byte as usize / 12),
+            stored: Range {
+                start: byte / 12 * 101,
+                length: 101,
+            },
+        });
+        compare.hold("its block", &[&part], find(&list, byte) == wanted);
+    }
 }
 
 /// The fields of tests/lookup_vectors.py: a length of four bytes before each.

@@ -9,6 +9,7 @@ use crate::generate::ULIDS;
 use crate::plain::pack::record;
 use crate::plain::writer::with_primary;
 use crate::random::Random;
+use crate::sections::pack_lists;
 use std::slice;
 
 /// All orders of the numbers below `count`.
@@ -27,7 +28,7 @@ fn orders(count: usize) -> Vec<Vec<usize>> {
 }
 
 /// A map of these pairs in every order, and each key in every width of text.
-fn every_map(pairs: &[(&str, Vec<u8>)], mut use_map: impl FnMut(&[u8])) {
+pub fn every_map(pairs: &[(&str, Vec<u8>)], mut use_map: impl FnMut(&[u8])) {
     let forms: Vec<Vec<Vec<u8>>> = pairs
         .iter()
         .map(|(key, value)| {
@@ -98,7 +99,7 @@ pub fn unknown_keys(compare: &mut Compare, random: &mut Random) {
             compare.value(&[b"\x82", &pair[..], b"\xa1e\xc4\x01p"].concat());
             if value % 16 == key % 16 {
                 let odd = (Tree::Raw(pair), Tree::Raw(Vec::new()));
-                for tag in [b"bk", b"vr", b"vd"] {
+                for tag in [b"bk", b"vr", b"vd", b"ol"] {
                     let mut pairs = keys.clone();
                     pairs.insert(random.below(pairs.len() + 1), odd.clone());
                     primary(compare, tag, Tree::Map(pairs));
@@ -117,10 +118,11 @@ fn primary_pairs() -> Vec<(Tree, Tree)> {
         ("d", Tree::Boolean(true)),
         ("???", text(ULIDS[4])),
         ("I", text("00000000000000000000000001:herd/k")),
+        ("P", Tree::List(vec![pack_lists::good()])),
     ]))
 }
 
-fn pairs_of(map: Tree) -> Vec<(Tree, Tree)> {
+pub fn pairs_of(map: Tree) -> Vec<(Tree, Tree)> {
     match map {
         Tree::Map(pairs) => pairs,
         _ => Vec::new(),
@@ -134,12 +136,13 @@ fn primary(compare: &mut Compare, tag: &[u8; 2], primary: Tree) {
     match tag {
         b"vr" => compare.write_version(0, &primary.shortest()),
         b"vd" => compare.write_delete(0, &primary.shortest()),
+        b"ol" => pack_lists::read(compare, &primary.shortest(), &[0]),
         _ => {}
     }
 }
 
 /// The pairs with one key's value replaced, and with the key a second time, before and after.
-fn with_other(pairs: &[(Tree, Tree)], at: usize, other: &Tree) -> [Tree; 3] {
+pub fn with_other(pairs: &[(Tree, Tree)], at: usize, other: &Tree) -> [Tree; 3] {
     let pair = (pairs[at].0.clone(), other.clone());
     let mut replaced = pairs.to_vec();
     replaced[at] = pair.clone();
@@ -211,7 +214,7 @@ fn known_header_keys(compare: &mut Compare, other: &Tree) {
 
 fn known_primary_keys(compare: &mut Compare, other: &Tree) {
     let pairs = primary_pairs();
-    for tag in [b"bk", b"vr", b"vd"] {
+    for tag in [b"bk", b"vr", b"vd", b"ol"] {
         for at in 0..pairs.len() {
             for map in with_other(&pairs, at, other) {
                 primary(compare, tag, map);
@@ -223,14 +226,15 @@ fn known_primary_keys(compare: &mut Compare, other: &Tree) {
     }
     for at in 0..3 {
         for identifier in with_other(&pairs[..3], at, other) {
-            primary(compare, b"bk", map([("I", identifier)]));
+            primary(compare, b"bk", map([("I", identifier.clone())]));
+            primary(compare, b"ol", map([("I", identifier)]));
         }
     }
 }
 
 /// A map of these pairs with one of its keys twice: the second at every place, with the value of
 /// every key, and both in every two widths.
-fn every_second(pairs: &[(Tree, Tree)], mut use_map: impl FnMut(Vec<(Tree, Tree)>)) {
+pub fn every_second(pairs: &[(Tree, Tree)], mut use_map: impl FnMut(Vec<(Tree, Tree)>)) {
     for (key, _) in pairs {
         for (_, value) in pairs {
             for at in 0..=pairs.len() {
@@ -258,11 +262,13 @@ pub fn keys_twice(compare: &mut Compare, _: &mut Random) {
     every_second(&header(vec![Tree::Map(second.clone())]), &mut value);
     every_second(&second, |second| value(header(vec![Tree::Map(second)])));
     let pairs = primary_pairs();
-    for tag in [b"bk", b"vr", b"vd"] {
+    for tag in [b"bk", b"vr", b"vd", b"ol"] {
         every_second(&pairs, |part| primary(compare, tag, Tree::Map(part)));
     }
     every_second(&pairs[..3], |identifier| {
-        primary(compare, b"bk", map([("I", Tree::Map(identifier))]));
+        let part = map([("I", Tree::Map(identifier))]);
+        primary(compare, b"bk", part.clone());
+        primary(compare, b"ol", part);
     });
 }
 
@@ -307,7 +313,7 @@ fn nested_values(compare: &mut Compare, deep: &[u8]) {
             compare.value(&value[..end]);
         }
         compare.value(&[&value[..], b"\x00"].concat());
-        for tag in [b"bk", b"vr", b"vd", b"xx"] {
+        for tag in [b"bk", b"vr", b"vd", b"ol", b"xx"] {
             let pack = record(*tag, &value);
             compare.record(&pack, 0);
             compare.current(&pack, b"herd", b"list");
@@ -318,7 +324,7 @@ fn nested_values(compare: &mut Compare, deep: &[u8]) {
 fn nested_primaries(compare: &mut Compare, deep: &Tree) {
     let pairs = primary_pairs();
     let identifier = [&pairs[..3], &[(text("x"), deep.clone())]].concat();
-    for tag in [b"bk", b"vr", b"vd"] {
+    for tag in [b"bk", b"vr", b"vd", b"ol"] {
         let value = [&pairs[..], &[(text("x"), deep.clone())]].concat();
         let key = [&[(deep.clone(), Tree::Nil)], &pairs[..]].concat();
         primary(compare, tag, Tree::Map(value));
@@ -326,10 +332,13 @@ fn nested_primaries(compare: &mut Compare, deep: &Tree) {
         primary(compare, tag, deep.clone());
         primary(compare, tag, map([("I", Tree::Map(identifier.clone()))]));
     }
+    for part in pack_lists::with_inside(deep) {
+        primary(compare, b"ol", part);
+    }
 }
 
 /// The numbers within two of each power of two up to 2^64, and their negatives.
-fn near_powers() -> Vec<i128> {
+pub fn near_powers() -> Vec<i128> {
     let near = |power: u32| (-2..=2).map(move |more| (1i128 << power) + more);
     let numbers: Vec<i128> = (0..=64).flat_map(near).collect();
     let negatives = numbers.iter().map(|number| -number);

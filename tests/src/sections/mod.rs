@@ -5,6 +5,7 @@ mod document;
 mod forms;
 mod large;
 mod names;
+mod pack_lists;
 mod properties;
 mod writing;
 
@@ -13,7 +14,7 @@ use crate::random::Random;
 
 type Section = (&'static str, fn(&mut Compare, &mut Random));
 
-pub const ALL: [Section; 21] = [
+pub const ALL: [Section; 26] = [
     ("the documents' own cases", document::cases),
     ("the stored lookups", document::lookups),
     ("hashes", document::hashes),
@@ -35,6 +36,14 @@ pub const ALL: [Section; 21] = [
     ("random packs", damage::random_packs),
     ("bytes changed", damage::changed),
     ("cut and grown", damage::cut_and_grown),
+    ("pack lists", pack_lists::lists),
+    ("pack lists, changed and cut", pack_lists::damaged),
+    (
+        "pack list keys in every order and width",
+        pack_lists::orders,
+    ),
+    ("pack list keys of every type and twice", pack_lists::keys),
+    ("pack list numbers near 64 bits", pack_lists::numbers),
     ("names", names::names),
     ("ULIDs", names::ulids),
     ("writing", writing::calls),

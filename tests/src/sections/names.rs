@@ -5,6 +5,7 @@ use crate::encode::{map, text, Tree};
 use crate::generate::{any_identifier, ULIDS};
 use crate::plain::writer::with_primary;
 use crate::random::Random;
+use crate::sections::pack_lists;
 
 const LENGTHS: [usize; 22] = [
     0, 1, 2, 3, 30, 31, 32, 61, 62, 63, 64, 65, 127, 128, 255, 256, 257, 1022, 1023, 1024, 1025,
@@ -39,12 +40,13 @@ fn name(compare: &mut Compare, ulid: &[u8], bucket: &[u8], object: &[u8]) {
     compare.current(b"", bucket, object);
 }
 
-/// A composite text, handed to the writer and in a block.
+/// A composite text, handed to the writer, in a block and in a pack list.
 fn handed_in(compare: &mut Compare, composite: &[u8]) {
     compare.write_block(0, composite, b"data");
     compare.write_delete_of(0, composite, ULIDS[4].as_bytes());
-    let part = map([("I", Tree::Text(composite.to_vec()))]);
-    compare.record(&with_primary(b"bk", &part.shortest()), 0);
+    let part = map([("I", Tree::Text(composite.to_vec()))]).shortest();
+    compare.record(&with_primary(b"bk", &part), 0);
+    compare.pack_list(&part);
 }
 
 pub fn names(compare: &mut Compare, random: &mut Random) {
@@ -98,8 +100,9 @@ pub fn ulids(compare: &mut Compare, random: &mut Random) {
     }
 }
 
-/// As a version's, and as a delete identifier.
+/// As a version's, as a delete identifier, and as a pack's.
 fn ulid(compare: &mut Compare, ulid: &[u8]) {
+    pack_lists::read(compare, &pack_lists::of_pack(ulid), &[5]);
     compare.write_delete_of(0, b"00000000000000000000000001:herd/k", ulid);
     for (of, by) in [(ulid, ULIDS[0].as_bytes()), (ULIDS[0].as_bytes(), ulid)] {
         let of_text = |bytes: &[u8]| Tree::Text(bytes.to_vec());

@@ -15,6 +15,7 @@ enum Written {
     Block(Vec<u8>),
     Version(Vec<u8>),
     Delete(Vec<u8>),
+    PackList(Vec<u8>),
     DeleteOf(Vec<u8>),
 }
 
@@ -24,19 +25,21 @@ fn write(buffer: &mut [u8], used: usize, identifier: &Identifier, written: &Writ
         Written::Block(data) => vof::write_block(buffer, used, &composite, data),
         Written::Version(part) => vof::write_version(buffer, used, part),
         Written::Delete(part) => vof::write_delete(buffer, used, part),
+        Written::PackList(part) => vof::write_pack_list(buffer, used, part),
         Written::DeleteOf(by) => vof::write_delete_of(buffer, used, &composite, by),
     };
     count.unwrap()
 }
 
 fn any_written(random: &mut Random, identifier: &Identifier) -> Written {
-    match random.below(4) {
+    match random.below(5) {
         0 => {
             let length = random.below(300);
             Written::Block(random.bytes(length))
         }
         1 => Written::Version(primary(random, b"vr", identifier)),
         2 => Written::Delete(primary(random, b"vd", identifier)),
+        3 => Written::PackList(primary(random, b"ol", identifier)),
         _ => Written::DeleteOf(ulid(random)),
     }
 }
@@ -101,6 +104,12 @@ fn reads_as(pack: &[u8], entry: Entry, identifier: &Identifier, written: &Writte
                 && part.bytes == given
                 && secondary.is_none()
                 && record.delete_ulid == Some(by.bytes)
+        }
+        Written::PackList(given) => {
+            record.tag == vof::PACK_LIST
+                && part.bytes == given
+                && secondary.is_none()
+                && record.delete_ulid.is_none()
         }
         Written::DeleteOf(by) => {
             record.tag == vof::VERSION_DELETE

@@ -41,6 +41,8 @@ pub fn calls(compare: &mut Compare, random: &mut Random) {
         compare.write_version(used(random, 32 + 5 + part.len()), &part);
         let part = primary(random, b"vd", &identifier);
         compare.write_delete(used(random, 32 + 5 + part.len()), &part);
+        let part = primary(random, b"ol", &identifier);
+        compare.write_pack_list(used(random, 32 + 5 + part.len()), &part);
         let by = ulid(random);
         compare.write_delete_of(used(random, 32 + 5 + 39 + composite.len()), &composite, &by);
     }
@@ -56,8 +58,10 @@ pub fn calls(compare: &mut Compare, random: &mut Random) {
             ("o", text("k")),
             ("v", text(ULIDS[1])),
             ("???", text(ULIDS[2])),
+            ("I", text("00000000000000000000000001:herd/k")),
         ]);
         compare.write_version(3, &part.shortest());
         compare.write_delete(0, &part.shortest());
+        compare.write_pack_list(1, &part.shortest());
     }
 }

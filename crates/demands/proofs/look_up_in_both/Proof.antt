@@ -3,7 +3,7 @@ use borrow.Author.Needs.{needs}
 use Rattle.slices.specs.Bytes.{AllBytes}
 use Rattle.refusals.specs.Limit.{packLimit}
 use Rattle.current_version.specs.Bytes.{rearranged-packs-answer-alike}
-use Rattle.demands.specs.Sites.{sites-look-up-alike}
+use Rattle.demands_laws.specs.Sites.{sites-look-up-alike}
 use Rattle.demands.proofs.look_up_in_both.Statement.{statement}
 use Rattle.demands.proofs.look_up_in_both.Tie as tie
 

@@ -14,6 +14,9 @@ enum-known-kind c = search needs
 enum-told-2 : tie.Need-enum-told-2
 enum-told-2 c = search needs
 
+enum-told-3 : tie.Need-enum-told-3
+enum-told-3 c = search needs
+
 returns : tie.Need-returns
 returns c = search needs
 
@@ -23,6 +26,18 @@ returns-2 c = sym (ap (roleFor _ _) (c .before .kind .given .1))
 returns-3 : tie.Need-returns-3
 returns-3 c = sym (ap (roleFor _ _) (c .enum-told2 .given .1))
 
+returns-4 : tie.Need-returns-4
+returns-4 c = search needs
+
 pub by-kind-spec : {M : Type 1} → statement M
 by-kind-spec =
-    tie.close (tie.spec enum-told enum-known-kind enum-told-2 returns returns-2 returns-3)
+    tie.close
+    (tie.spec
+    enum-told
+    enum-known-kind
+    enum-told-2
+    enum-told-3
+    returns
+    returns-2
+    returns-3
+    returns-4)

@@ -7,8 +7,8 @@ use Rattle.slices.specs.Bytes.{AllBytes}
 use Rattle.endian.specs.Numbers.{big}
 use Rattle.endian.specs.Places.{numberOf}
 use Rattle.msgpack.specs.Formats.{widthOf, amountOf, formatOf}
-use Rattle.msgpack.specs.HeadLaws.{number-read, Narrow}
-use Rattle.msgpack.proofs.Heads.{read-small, narrow-at, head-read-at, head-unread-at}
+use Rattle.msgpack.specs.HeadLaws.{number-read, read-small, Narrow}
+use Rattle.msgpack.proofs.Heads.{narrow-at, head-read-at, head-unread-at}
 use borrow.Author.Needs.{needs}
 use Rattle.msgpack.proofs.sized_head.Statement.{statement}
 use Rattle.msgpack.proofs.sized_head.Tie as tie

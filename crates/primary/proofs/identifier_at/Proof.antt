@@ -29,7 +29,7 @@ returns c =
     (rw (← shape-is _ _ _ (text k) refl, text-once _ identityKeys _ (text k), c .if1 .taken), no-block _ _)
 
 from-composite-requires : tie.Need-from-composite-requires
-from-composite-requires c κs = c .before .before .before .before .text-at .ensures .1 .text _ (c .before .before .text .given .1)
+from-composite-requires c κs = c .before .before .before .before .text-at .ensures .1 .0 .text _ (c .before .before .text .given .1)
 
 enum-told : tie.Need-enum-told
 enum-told c = search needs

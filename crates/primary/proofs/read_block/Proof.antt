@@ -10,7 +10,8 @@ use Rattle.msgpack.specs.LookupLaws.{value-whole}
 use Rattle.msgpack.specs.Pairs.{placeTold}
 use Rattle.msgpack.specs.PairLaws.{told-inside, told-found}
 use Rattle.primary.specs.Parts.{identifierKey, block, fills}
-use Rattle.primary.proofs.Readings.{no-block, fills-is, fills-whole, not-filled, block-is}
+use Rattle.primary.specs.Filling.{fills-is, fills-whole, not-filled}
+use Rattle.primary.proofs.Readings.{no-block, block-is}
 use Rattle.primary.proofs.Keys.{block-place, block-repeats, no-block-map}
 use Rattle.primary.proofs.read_block.Statement.{statement}
 use Rattle.primary.proofs.read_block.Tie as tie

@@ -13,7 +13,8 @@ use Rattle.msgpack.specs.Views.{repeats, byteView}
 use Rattle.primary.specs.Parts.{versionDelete, fills, deleteIdKey, versionDeleteKeys, textUnder, textsUnder}
 use Rattle.primary.specs.Answers.{textOf, textsOf, textsIn, AllInside}
 use Rattle.primary.proofs.Places.{text-told, told-within}
-use Rattle.primary.proofs.Readings.{delete-inside, no-delete, no-texts-are, fills-is, fills-whole, not-filled, delete-is, delete-tested}
+use Rattle.primary.specs.Filling.{fills-is, fills-whole, not-filled}
+use Rattle.primary.proofs.Readings.{delete-inside, no-delete, no-texts-are, delete-is, delete-tested}
 use Rattle.primary.proofs.Keys.{flags, delete-identifier, delete-id-place, delete-repeats, no-delete-map}
 use Rattle.primary.proofs.read_delete.Statement.{statement}
 use Rattle.primary.proofs.read_delete.Tie as tie

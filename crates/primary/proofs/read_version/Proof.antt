@@ -13,7 +13,8 @@ use Rattle.msgpack.specs.Readers.{booleanOf}
 use Rattle.msgpack.specs.Views.{repeats, byteView}
 use Rattle.primary.specs.Parts.{version, fills, versionKeys, textsUnder, deletedKey, deletedUnder}
 use Rattle.primary.specs.Answers.{textsOf, textsIn, AllInside}
-use Rattle.primary.proofs.Readings.{version-inside, no-version, no-texts-are, flag-told, fills-is, fills-whole, not-filled, version-is, version-tested}
+use Rattle.primary.specs.Filling.{fills-is, fills-whole, not-filled}
+use Rattle.primary.proofs.Readings.{version-inside, no-version, no-texts-are, flag-told, version-is, version-tested}
 use Rattle.primary.proofs.Keys.{flags, version-identifier, flag-place, version-repeats, no-version-map}
 use Rattle.primary.proofs.read_version.Statement.{statement}
 use Rattle.primary.proofs.read_version.Tie as tie

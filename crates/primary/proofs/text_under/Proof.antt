@@ -20,7 +20,7 @@ text-at-requires c κs = search needs
 returns-2 : tie.Need-returns-2
 returns-2 c =
     let a = c .before .before .before .args in
-    (c .text-at .ensures .0 ∙ rw (told-found _ (c .before .if1 .left)) (ap textAt (sym (drop-drop (a .place) (a .at) (a .part .now)))), c .text-at .ensures .1)
+    (c .text-at .ensures .0 ∙ rw (told-found _ (c .before .if1 .left)) (ap textAt (sym (drop-drop (a .place) (a .at) (a .part .now)))), c .text-at .ensures .1 .0)
 
 pub text-under-spec : {M : Type 1} → statement M
 text-under-spec = tie.close (tie.spec returns add-text-at text-at-requires returns-2)

@@ -25,9 +25,24 @@ version-delete-requires c κs = search needs
 
 returns-3 : tie.Need-returns-3
 unfolding contents
-returns-3 c = (c .version-delete .ensures .0 ∙ rw (ne-eqb _ _ (c .before .before .if1 .left), ne-eqb _ _ (c .before .if2 .left)), c .version-delete .ensures .1)
+returns-3 c = (
+  c .version-delete .ensures .0
+      ∙ rw (ne-eqb _ _ (c .before .before .before .if1 .left), ne-eqb _ _ (c .before .before .if2 .left), eq-eqb _ _ (c .before .if3 .taken)),
+  c .version-delete .ensures .1,
+)
+
+pack-list-requires : tie.Need-pack-list-requires
+pack-list-requires c κs = search needs
+
+returns-4 : tie.Need-returns-4
+unfolding contents
+returns-4 c = (
+  c .pack-list .ensures .0
+      ∙ rw (ne-eqb _ _ (c .before .before .before .if1 .left), ne-eqb _ _ (c .before .before .if2 .left), ne-eqb _ _ (c .before .if3 .left)),
+  c .pack-list .ensures .1,
+)
 
 pub contents-spec : {M : Type 1} → statement M
 contents-spec =
     tie.close
-    (tie.spec block-requires returns version-requires returns-2 version-delete-requires returns-3)
+    (tie.spec block-requires returns version-requires returns-2 version-delete-requires returns-3 pack-list-requires returns-4)

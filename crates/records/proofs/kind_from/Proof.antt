@@ -18,6 +18,9 @@ enum-known-kind-2 c = search needs
 place-from-requires : tie.Need-place-from-requires
 place-from-requires c κs = c .before .before .before .pre .delete-id _ (c .before .kind2 .given .1)
 
+enum-told-2 : tie.Need-enum-told-2
+enum-told-2 c = search needs
+
 returns : tie.Need-returns
 returns c = search needs
 
@@ -27,6 +30,9 @@ returns-2 c = sym (ap (shiftKind _) (c .before .kind .given .1))
 returns-3 : tie.Need-returns-3
 returns-3 c = ap VersionDelete (c .place-from .ensures) ∙ sym (ap (shiftKind (c .before .before .before .before .args .by)) (c .before .before .kind2 .given .1))
 
+returns-4 : tie.Need-returns-4
+returns-4 c = search needs
+
 pub kind-from-spec : {M : Type 1} → statement M
 kind-from-spec =
     tie.close
@@ -35,6 +41,8 @@ kind-from-spec =
     enum-known-kind
     enum-known-kind-2
     place-from-requires
+    enum-told-2
     returns
     returns-2
-    returns-3)
+    returns-3
+    returns-4)

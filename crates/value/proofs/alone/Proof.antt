@@ -45,7 +45,7 @@ unfolding headerAlone alone
 returns c = rw (bytes-told _ _ (c .before .before .before .before .args .places .e) (c .before .before .before .before .pre .primary) ∙ sym (c .before .before .bytes-under .ensures) ∙ ap partOf (c .enum-told .given .1))
 
 natural-under-requires : tie.Need-natural-under-requires
-natural-under-requires c κs = told-inside _ _ (c .before .before .before .before .before .args .places .c) (c .before .before .before .before .before .pre .compression)
+natural-under-requires c κs = search needs
 
 enum-known-compression : tie.Need-enum-known-compression
 enum-known-compression c = search needs
@@ -60,7 +60,7 @@ returns-2 c =
     rw (bytes-read k, natural-told _ _ (k .before .before .before .before .before .args .places .c) (k .before .before .before .before .before .pre .compression) (some 0) ∙ sym (c .before .before .natural-under .ensures) ∙ ap numberOf (c .enum-told2 .given .1))
 
 natural-under-requires-2 : tie.Need-natural-under-requires-2
-natural-under-requires-2 c κs = told-inside _ _ (c .before .before .before .before .before .before .before .before .before .args .places .v) (c .before .before .before .before .before .before .before .before .before .pre .version)
+natural-under-requires-2 c κs = search needs
 
 enum-known-version : tie.Need-enum-known-version
 enum-known-version c = search needs

@@ -44,7 +44,7 @@ array-read-natural-under : tie.Need-array-read-natural-under
 array-read-natural-under c = search needs
 
 natural-under-requires : tie.Need-natural-under-requires
-natural-under-requires c κs = told-inside _ _ (getD (c .before .before .before .read-pairs .result .places) 0 0) (places-are (c .before) .size)
+natural-under-requires c κs = search needs
 
 enum-known-l : tie.Need-enum-known-l
 enum-known-l c = search needs
@@ -64,7 +64,7 @@ array-read-natural-under-2 : tie.Need-array-read-natural-under-2
 array-read-natural-under-2 c = search needs
 
 natural-under-requires-2 : tie.Need-natural-under-requires-2
-natural-under-requires-2 c κs = told-inside _ _ (getD (c .before .before .before .before .before .before .before .before .read-pairs .result .places) 1 0) (places-are (c .before .before .before .before .before .before) .compression)
+natural-under-requires-2 c κs = search needs
 
 enum-known-compression : tie.Need-enum-known-compression
 enum-known-compression c = search needs

@@ -24,6 +24,12 @@ enum-known-kind-2 c = search needs
 cast-t8 : tie.Need-cast-t8
 cast-t8 c = search needs
 
+enum-told-2 : tie.Need-enum-told-2
+enum-told-2 c = search needs
+
+cast-t11 : tie.Need-cast-t11
+cast-t11 c = search needs
+
 returns : tie.Need-returns
 returns c = rw (c .enum-told .given .1)
 
@@ -32,6 +38,9 @@ returns-2 c = rw (c .flag .ensures, c .before .before .kind .given .1)
 
 returns-3 : tie.Need-returns-3
 returns-3 c = rw (c .before .kind2 .given .1)
+
+returns-4 : tie.Need-returns-4
+returns-4 c = rw (c .enum-told2 .given .1)
 
 pub kind-words-spec : {M : Type 1} → statement M
 kind-words-spec =
@@ -44,6 +53,9 @@ kind-words-spec =
     flag-requires
     enum-known-kind-2
     cast-t8
+    enum-told-2
+    cast-t11
     returns
     returns-2
-    returns-3)
+    returns-3
+    returns-4)

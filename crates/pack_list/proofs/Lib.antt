@@ -1,0 +1,8 @@
+pub mod Summing
+pub mod Finding
+pub mod Surveys
+pub mod Listing
+pub mod Keys
+pub mod Ranges
+pub mod Arrays
+pub mod Entries

@@ -1,0 +1,12 @@
+pub mod Lists
+pub mod Blocks
+pub mod Laws
+pub mod ListsAlike
+pub mod Answers
+pub mod Walks
+pub mod Counts
+pub mod Stride
+pub mod Lengths
+pub mod Exactly
+pub mod Reading
+pub mod Examples
