@@ -134,6 +134,32 @@ uint64_t vof_current(const uint8_t *pack, size_t pack_length, const uint8_t *buc
                      size_t bucket_length, const uint8_t *object, size_t object_length,
                      uint64_t *told, size_t told_length, uint8_t *ulid, size_t ulid_length);
 
+/* Why a version record is current, or is not. Where several hold, the greatest is told. */
+enum {
+    VOF_REASON_CURRENT,
+    /* It is current, and a delete marker. */
+    VOF_REASON_CURRENT_MARKER,
+    /* Another version is current, and its ULID is greater. */
+    VOF_REASON_OLDER,
+    /* An earlier version record has the same identifier. */
+    VOF_REASON_REPEATED,
+    /* A version delete names it. */
+    VOF_REASON_REMOVED
+};
+
+/* What vof_explain tells of each version record. The place is where another record starts: of an
+   older one the current one, of a repeated one the earliest with its identifier, of a removed one
+   the earliest version delete that names it; of the current one it is its own start. */
+enum { VOF_EXPLAIN_START, VOF_EXPLAIN_REASON, VOF_EXPLAIN_PLACE, VOF_EXPLAIN_NUMBERS };
+
+/* Says why the current version of an object is current, or why there is none, record by record.
+   Word: how many version records the name has. `told` then has VOF_EXPLAIN_NUMBERS numbers for
+   each, in their order, and keeps the rest. A pack has at most one record for each 32 of its bytes.
+   Refusals: those of vof_current but 19; then 19 where `told` is too short for all of them. */
+uint64_t vof_explain(const uint8_t *pack, size_t pack_length, const uint8_t *bucket,
+                     size_t bucket_length, const uint8_t *object, size_t object_length,
+                     uint64_t *told, size_t told_length);
+
 /* ---- pack lists
 
    A pack list says which range of a version, the source range, is stored in which range of which

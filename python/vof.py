@@ -115,6 +115,17 @@ class Version(NamedTuple):
     value: Place
 
 
+class Line(NamedTuple):
+    """A version record of a name, and why it is current or is not: "current", "current marker",
+    "older", "repeat" or "removed"."""
+
+    start: int
+    reason: str
+    # Where another record starts: of an older one the current one, of a repeat the earliest with its
+    # identifier, of a removed one the earliest deletion of it; of the current one its own start.
+    place: int
+
+
 class PackEntry(NamedTuple):
     """An entry of a pack list: a range of the version's data, and where it is stored in which pack,
     in so many blocks."""
@@ -147,6 +158,7 @@ _FUNCTIONS = {
     "vof_record": _READ + [_SIZE] + _TOLD + [_BYTES, _SIZE],
     "vof_value": _READ + _TOLD,
     "vof_current": _READ * 3 + _TOLD + [_BYTES, _SIZE],
+    "vof_explain": _READ * 3 + _TOLD,
     "vof_pack_list": _READ + _TOLD,
     "vof_find_block": _READ + [_NUMBER] + _TOLD,
     "vof_write_block": _WRITE + _READ * 2,
@@ -255,22 +267,24 @@ def xxh64(data):
     return _library.vof_xxh64(*_lent(data))
 
 
-def scan(pack):
-    """Checks a pack, and gives a list with an Entry for each record. Refusals 1 to 8."""
+def _rows(width, pack, placed, function, *given):
+    """What a function tells of the records of a pack, so many numbers for each."""
     most = len(_view(pack)) // 32
     room = min(most, 4096)
-    # How many records there are is known after the check, and only to a list that is long enough.
+    # How many rows there are is known after the check, and only to a list that is long enough.
     while True:
-        told = _numbers(3 * room)
-        answer = _library.vof_scan(*_lent(pack), told, len(told))
+        told = _numbers(width * room)
+        answer = function(*_lent(pack), *given, told, len(told))
         if answer % 256 != 19 or room == most:
             break
         room = min(most, 16 * room)
-    numbers = told[: 3 * _word(answer)]
-    return [
-        Entry(start, _tag(tag), value_length)
-        for start, tag, value_length in zip(numbers[::3], numbers[1::3], numbers[2::3])
-    ]
+    return zip(*[iter(told[: width * _word(answer, placed)])] * width)
+
+
+def scan(pack):
+    """Checks a pack, and gives a list with an Entry for each record. Refusals 1 to 8."""
+    rows = _rows(3, pack, _OF_PACK, _library.vof_scan)
+    return [Entry(start, _tag(tag), length) for start, tag, length in rows]
 
 
 def record(pack, at):
@@ -315,6 +329,19 @@ def current(pack, bucket, object):
         return None
     identifier = Identifier(ulid.raw, bucket, object)
     return Version(identifier, bool(is_delete_marker), start, Place(start + 32, value_length))
+
+
+_REASONS = "current", "current marker", "older", "repeat", "removed"
+
+
+def explain(pack, bucket, object):
+    """A list with a Line for each version record of an object, in their order. Refusals as those of
+    current."""
+    names = *_lent(_text(bucket)), *_lent(_text(object))
+    return [
+        Line(start, _REASONS[reason], place)
+        for start, reason, place in _rows(3, pack, _OF_LOOKUP, _library.vof_explain, *names)
+    ]
 
 
 def _ulid(primary, start):

@@ -12,8 +12,7 @@ import sys
 sys.dont_write_bytecode = True
 from packs import NIL, Raw, block, every_text, header, item, lists, pairs, record, sized
 from packs import version, version_delete, xxh64
-from reader import Refusal, is_name, outcome
-from reader import read_content, read_delete, read_tlv, read_value, read_version
+from reader import outcome, read_pack
 from stored import store
 
 BUFFER = 65536
@@ -21,30 +20,9 @@ BUFFER = 65536
 # ---- a plain lookup by document 01
 
 
-def records_of(pack):
-    """Refusals 2 to 8, or each record: its start, tag and value. No pack here is too long."""
-    place = 0
-    while place < len(pack):
-        tag, value = read_tlv(pack, place)
-        yield place, tag, value
-        place += 32 + len(value)
-
-
 def lookup(pack, bucket, object):
-    if not is_name(bucket, object):
-        raise Refusal("20")
-    versions, deleted = [], set()
-    # The whole pack is checked before the first value is read.
-    for start, tag, value in list(records_of(pack)):
-        try:
-            if tag == b"vr":
-                identifier, flag = read_version(read_content(read_value(value)))
-                versions.append((identifier, flag, start, value))
-            elif tag == b"vd":
-                identifier, _ = read_delete(read_content(read_value(value)))
-                deleted.add(identifier)
-        except Refusal as refusal:
-            raise Refusal("%s at %d" % (refusal, start))
+    versions, deletions = read_pack(pack, bucket, object)
+    deleted = {identifier for identifier, _ in deletions}
     named = [v for v in versions if v[0][1:] == (bucket, object) and v[0] not in deleted]
     # Of equals, max gives the first.
     return max(named, key=lambda v: v[0].ulid) if named else None

@@ -69,6 +69,8 @@ def item(x):
         return x
     if isinstance(x, bool):
         return b"\xc3" if x else b"\xc2"
+    if isinstance(x, int) and x < 0:
+        return negative(x)
     if isinstance(x, int):
         return head(x, 0x00, 128, [(0xCC, 1), (0xCD, 2), (0xCE, 4), (0xCF, 8)])
     if isinstance(x, bytes):
@@ -79,6 +81,13 @@ def item(x):
     if isinstance(x, list):
         return head(len(x), 0x90, 16, [(0xDC, 2), (0xDD, 4)]) + b"".join(map(item, x))
     return bytes(pairs(*x.items()))
+
+
+def negative(x):
+    if x >= -32:
+        return bytes([256 + x])
+    first, width = next(f for f in [(0xD0, 1), (0xD1, 2), (0xD2, 4), (0xD3, 8)] if -x <= 1 << 8 * f[1] - 1)
+    return bytes([first]) + x.to_bytes(width, "big", signed=True)
 
 
 def pairs(*given):

@@ -381,3 +381,34 @@ def read_tlv(pack, place):
         if fault:
             raise Refusal("%d at %d" % (number, place))
     return s[25:27], value
+
+
+def records_of(pack):
+    """Refusals 2 to 8, or each record: its start, tag and value. No pack here is too long."""
+    place = 0
+    while place < len(pack):
+        tag, value = read_tlv(pack, place)
+        yield place, tag, value
+        place += 32 + len(value)
+
+
+def read_pack(pack, bucket, object):
+    """The lookup's refusals, or the pack's versions and deletions, each in pack order.
+
+    A version: identifier, delete flag, start and value. A deletion: identifier and start.
+    """
+    if not is_name(bucket, object):
+        raise Refusal("20")
+    versions, deletions = [], []
+    # The whole pack is checked before the first value is read.
+    for start, tag, value in list(records_of(pack)):
+        try:
+            if tag == b"vr":
+                identifier, flag = read_version(read_content(read_value(value)))
+                versions.append((identifier, flag, start, value))
+            elif tag == b"vd":
+                identifier, _ = read_delete(read_content(read_value(value)))
+                deletions.append((identifier, start))
+        except Refusal as refusal:
+            raise Refusal("%s at %d" % (refusal, start))
+    return versions, deletions

@@ -1,6 +1,6 @@
 //! One call of the archive beside the plain implementation: the answer, and all of the lent memory.
 
-use crate::plain::lookup::{current, Version};
+use crate::plain::lookup::{current, explain, Version};
 use crate::plain::pack::read_pack;
 use crate::plain::pack_list::{self, find, read_pack_list, PackList};
 use crate::plain::record::{record_at, Record};
@@ -69,6 +69,7 @@ pub enum Function {
     Value,
     Record,
     Current,
+    Explain,
     PackList,
     FindBlock,
     WriteBlock,
@@ -79,7 +80,7 @@ pub enum Function {
 }
 
 /// The numbers that each function can answer, 0 where it does not refuse.
-const NUMBERS: [(Function, &[usize]); 11] = [
+const NUMBERS: [(Function, &[usize]); 12] = [
     (Function::Scan, &[0, 1, 2, 3, 4, 5, 6, 7, 8, 19]),
     (Function::Value, &[0, 9, 10, 11, 12, 19, 22]),
     (
@@ -90,6 +91,12 @@ const NUMBERS: [(Function, &[usize]); 11] = [
     ),
     (
         Function::Current,
+        &[
+            0, 1, 2, 3, 4, 5, 6, 7, 8, 9, 10, 11, 12, 14, 15, 16, 17, 18, 19, 20, 22,
+        ],
+    ),
+    (
+        Function::Explain,
         &[
             0, 1, 2, 3, 4, 5, 6, 7, 8, 9, 10, 11, 12, 14, 15, 16, 17, 18, 19, 20, 22,
         ],
@@ -283,6 +290,34 @@ impl Compare {
         let safe = vof::current(pack, bucket, object).map(|found| found.map(|it| it.bytes));
         let same = safe == plain.map(|found| found.map(|it| it.value));
         self.hold("the safe current version", &inputs, same);
+    }
+
+    pub fn explain(&mut self, pack: &[u8], bucket: &[u8], object: &[u8]) {
+        self.inputs += 1;
+        let plain = explain(pack, bucket, object);
+        let wanted = match &plain {
+            Err(refusal) => Wanted::refused(*refusal),
+            Ok(lines) => Wanted {
+                answer: 256 * lines.len() as u64,
+                words: lines.concat(),
+                bytes: Vec::new(),
+            },
+        };
+        let exact = wanted.words.len();
+        let rooms = [exact, exact.saturating_sub(1), 0, exact + 1, exact + 7].map(|n| (n, 0));
+        let inputs = [pack, bucket, object];
+        let call = |words: &mut [u64], _: &mut [u8]| raw::explain(pack, bucket, object, words);
+        self.lent(Function::Explain, &inputs, &wanted, &rooms, call);
+        let mut lines = vec![vof::Line::default(); exact / 3];
+        let safe = vof::explain(pack, bucket, object, &mut lines);
+        let same = safe == plain.map(|lines| lines.len());
+        self.hold("the safe explanation", &inputs, same);
+    }
+
+    /// All that is told of an object.
+    pub fn object(&mut self, pack: &[u8], bucket: &[u8], object: &[u8]) {
+        self.current(pack, bucket, object);
+        self.explain(pack, bucket, object);
     }
 
     pub fn pack_list(&mut self, primary: &[u8]) {

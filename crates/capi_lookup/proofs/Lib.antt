@@ -1,2 +1,3 @@
 mod Bounds
 mod Versions
+mod Explanations

@@ -1,12 +1,16 @@
-// For C, Rust and Python: the current version of an object.
+// For C, Rust and Python: the current version of an object, and why it is current.
 ghost use mathlib.Core.Path.{_≡_};
 ghost use mathlib.Core.Bool.{cond};
 ghost use lib.ListN.{length};
 ghost use Rattle.slices.specs.Overwriting.{overwritten};
 ghost use Rattle.refusals.specs.Limit.{packLimit};
 ghost use Rattle.current_version.specs.Current.{lookup};
+ghost use Rattle.explanation.specs.Reasons.{explain};
+ghost use Rattle.explanation.specs.Answers.{toldAfter};
 ghost use Rattle.words.specs.Words.{answer};
 ghost use Rattle.capi_lookup.specs.Current.{fits, currentAnswer, currentTold, currentUlid};
+ghost use Rattle.capi_lookup.specs.Explanation.{explainAnswer};
+use explanation::Explained;
 use lookup::Found;
 
 // Four words and a text, where there is room for both.
@@ -59,5 +63,24 @@ pub extern "C" fn vof_current(
         Found::TooLong => words::answer(1, 0),
         Found::Fault(f, at) => words::answer(tlv::number(f), at),
         Found::Unreadable(f, at) => words::answer(records::number(f), at),
+    }
+}
+
+// Start, reason and place of each version record of the name, in order. The word is a refusal's place,
+// or else the count. 19: fewer than three words for each.
+#[no_mangle]
+pub extern "C" fn vof_explain(pack: &[u8], bucket: &[u8], object: &[u8], told: &mut [u64]) -> u64
+    ensures answer { λ r. ⌜ r
+        ≡ explainAnswer (explain packLimit (now (pack .entry)) (now (bucket .entry)) (now (object .entry))) (length (now (told .entry))) ⌝ }
+    ensures told { λ _. ⌜ now (told .exit)
+        ≡ toldAfter (explain packLimit (now (pack .entry)) (now (bucket .entry)) (now (object .entry))) (now (told .entry)) ⌝ }
+{
+    match explanation::explain(pack, bucket, object, told) {
+        Explained::Lines(n, _) => words::answer(0, n),
+        Explained::Inadmissible => words::answer(20, 0),
+        Explained::TooLong => words::answer(1, 0),
+        Explained::Fault(f, at) => words::answer(tlv::number(f), at),
+        Explained::Unreadable(f, at) => words::answer(records::number(f), at),
+        Explained::Short => words::answer(19, 0),
     }
 }

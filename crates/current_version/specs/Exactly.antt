@@ -49,7 +49,7 @@ has-name bucket object i e =
     let h = both (sameBytes (i .bucket) bucket) (sameBytes (i .object) object) e in
     (same-bytes-equal (i .bucket) bucket (h .0), same-bytes-equal (i .object) object (h .1))
 
-name-had : (bucket object : List ℕ) (i : Identity) → i .bucket ≡ bucket → i .object ≡ object → hasName (some i) bucket object ≡ true
+pub name-had : (bucket object : List ℕ) (i : Identity) → i .bucket ≡ bucket → i .object ≡ object → hasName (some i) bucket object ≡ true
 unfolding hasName
 name-had bucket object i p q = rw (p, q, same-bytes-refl bucket, same-bytes-refl object)
 

@@ -80,7 +80,7 @@ pub fn is_ulid(s: &[u8]) -> bool
 }
 
 // How many bytes stand before the first slash: all of them where there is none.
-fn count_before_slash(s: &[u8]) -> usize
+pub fn count_before_slash(s: &[u8]) -> usize
     ensures { λ r. ⌜ r ≡ length (before slash (now (s .entry))) ⌝ }
 {
     let mut end = s.len();

@@ -1,7 +1,7 @@
 -- What an answer of the scan into a list of 2,048 entries says of the reading, and so of the text.
-use Prim.Native.Nat.{ℕ, _+_, _*_, _≤_}
+use Prim.Native.Nat.{ℕ, _≤_}
 use mathlib.Core.Bool.{Bool, true, false, cond}
-use mathlib.Core.List.{List, [], _∷_, _++_}
+use mathlib.Core.List.{List, _++_}
 use mathlib.Core.Path.{_≡_, refl, sym, ap, subst, _∙_}
 use native.Mathlib.Omega.{arith}
 use borrow.Author.Tests.{leb-true, le-leb}
@@ -13,10 +13,11 @@ use Rattle.refusals.specs.Limit.{packLimit}
 use Rattle.pack.specs.declared.Entry.{Entry}
 use Rattle.pack.specs.Reading.{Reading, Ending, whole, refused, Outcome, counted, alone, reading}
 use Rattle.pack.specs.Scan.{noEntry, scanned, listAfter}
-use Rattle.pack.specs.Acceptance.{Fills, accepted-fills}
+use Rattle.pack.specs.Acceptance.{accepted-count}
 use Rattle.list_pack.specs.Listing.{noEntries}
-use Rattle.list_pack.specs.Put.{Put, put-then}
-use Rattle.list_pack.specs.Text.{lines, countLine, refusalLine, text, count-length, refusal-length}
+use Rattle.console.specs.Put.{Put, PutWithRoom, put-then}
+use Rattle.console.specs.Text.{refusalLine, refusal-length}
+use Rattle.list_pack.specs.Text.{lines, countLine, text, count-length}
 
 -- ---- the answers are told apart
 
@@ -65,12 +66,8 @@ refusal r n p e = by (r .ending) refl e
     by (refused m o) w q = w ∙ refused-same q
 
 -- a pack of 65,536 bytes has at most 2,048 records
-fills-count : (at : ℕ) (es : List Entry) (stop : ℕ) → Fills at es stop → at + 32 * length es ≤ stop
-fills-count at [] stop f = omega arith
-fills-count at (e ∷ es) stop f = omega (arith, fills-count (at + (32 + e .length)) es stop (f .1))
-
 few-entries : (s : List ℕ) → AllBytes s → length s ≤ 65536 → reading packLimit s .ending ≡ whole → length (reading packLimit s .entries) ≤ 2048
-few-entries s bytes h e = omega (arith, fills-count 0 (reading packLimit s .entries) (length s) (accepted-fills packLimit s (omega arith) bytes e))
+few-entries s bytes h e = omega (arith, accepted-count packLimit s (omega arith) bytes e)
 
 pub never-short : (s : List ℕ) → AllBytes s → length s ≤ 65536 → alone 19 ≡ scanned (reading packLimit s) 2048 → ⊥
 never-short s bytes h e = by (reading packLimit s .ending) refl e
@@ -108,7 +105,9 @@ module _ (r : Reading) (n : ℕ) (f : Filled r n) where
       let c = count-length n in
       (subst (λ (t : List ℕ). Put s0 0 t s2 next) text-is (put-then (omega (arith, p .place)) p q), omega (arith, q .place))
 
-pub refusal-put : (r : Reading) (n p : ℕ) {s0 s2 : List ℕ} {next : ℕ} → r .ending ≡ refused n p → Put s0 0 (refusalLine n p) s2 next → Put s0 0 (text r) s2 next × (next ≤ 98304)
-refusal-put r n p {s0} {s2} {next} e q =
+pub refusal-put : (r : Reading) (n p : ℕ) {s0 s2 : List ℕ} {next : ℕ} → 98304 ≤ length s0 → r .ending ≡ refused n p → PutWithRoom 53 s0 0 (refusalLine n p) s2 next
+    → Put s0 0 (text r) s2 next × (next ≤ 98304)
+refusal-put r n p {s0} {s2} {next} room e q =
     let t : refusalLine n p ≡ text r = rw e in
-    (subst (λ (x : List ℕ). Put s0 0 x s2 next) t q, omega (arith, q .place, refusal-length n p))
+    let put = q .fits (omega arith) in
+    (subst (λ (x : List ℕ). Put s0 0 x s2 next) t put, omega (arith, put .place, refusal-length n p))

@@ -6,43 +6,23 @@ use native.Mathlib.Omega.{arith}
 use lib.ListN.{length, getD, take, length-append}
 use Rattle.pack.specs.declared.Entry.{Entry}
 use Rattle.pack.specs.Scan.{noEntry}
-use Rattle.list_pack.specs.Put.{Put, put-none, put-length, put-then}
-use Rattle.list_pack.specs.Text.{decimal, hex4, space, newline, recordsWord, refusedWord, atWord, line, lines, countLine, refusalLine, decimal-length, line-length, lines-more}
+use Rattle.console.specs.Put.{Put, Next, put-none, put-length, put-then, put-next}
+use Rattle.console.proofs.Lines.{start-put}
+use Rattle.console.specs.Text.{decimal, space, newline, decimal-length}
+use Rattle.list_pack.specs.Text.{hex, line, lines, line-length, lines-more}
 
-module _ {s0 s1 s2 s3 : List ℕ} {at m1 m2 m3 : ℕ} where
-  pub count-put : (n : ℕ) → at + 29 ≤ length s0 → Put s0 at recordsWord s1 m1 → Put s1 m1 (decimal n) s2 m2 → Put s2 m2 newline s3 m3 → Put s0 at (countLine n) s3 m3
-  unfolding countLine
-  count-put n h p q r =
-      let d = decimal-length n in
-      let l = length-append recordsWord (decimal n) in
-      put-then (omega arith) (put-then (omega arith) p q) r
-
-  module _ {s4 s5 : List ℕ} {m4 m5 : ℕ} where
-    pub refusal-put : (n place : ℕ) → at + 53 ≤ length s0
-        → Put s0 at refusedWord s1 m1 → Put s1 m1 (decimal n) s2 m2 → Put s2 m2 atWord s3 m3 → Put s3 m3 (decimal place) s4 m4 → Put s4 m4 newline s5 m5
-        → Put s0 at (refusalLine n place) s5 m5
-    unfolding refusalLine
-    refusal-put n place h p q r t u =
-        let d1 = decimal-length n in
-        let d2 = decimal-length place in
-        let l1 = length-append refusedWord (decimal n) in
-        let l2 = length-append (refusedWord ++ decimal n) atWord in
-        let l3 = length-append (refusedWord ++ decimal n ++ atWord) (decimal place) in
-        put-then (omega arith) (put-then (omega arith) (put-then (omega arith) (put-then (omega arith) p q) r) t) u
-
-    module _ {s6 : List ℕ} {m6 : ℕ} where
-      pub line-put : (e : Entry) → at + 47 ≤ length s0
-          → Put s0 at (decimal (e .start)) s1 m1 → Put s1 m1 space s2 m2 → Put s2 m2 (hex4 (e .tag)) s3 m3 → Put s3 m3 space s4 m4 → Put s4 m4 (decimal (e .length)) s5 m5 → Put s5 m5 newline s6 m6
-          → Put s0 at (line e) s6 m6
-      unfolding line
-      line-put e h p q r t u v =
-          let d1 = decimal-length (e .start) in
-          let d2 = decimal-length (e .length) in
-          let l1 = length-append (decimal (e .start)) space in
-          let l2 = length-append (decimal (e .start) ++ space) (hex4 (e .tag)) in
-          let l3 = length-append (decimal (e .start) ++ space ++ hex4 (e .tag)) space in
-          let l4 = length-append (decimal (e .start) ++ space ++ hex4 (e .tag) ++ space) (decimal (e .length)) in
-          put-then (omega arith) (put-then (omega arith) (put-then (omega arith) (put-then (omega arith) (put-then (omega arith) p q) r) t) u) v
+pub line-put : {s0 s1 s2 s3 s4 s5 s6 : List ℕ} {at m1 m2 m3 m4 m5 m6 : ℕ} (e : Entry) → at + 47 ≤ length s0
+    → Next s0 at (decimal (e .start)) s1 m1 → Next s1 m1 space s2 m2 → Put s2 m2 (hex 4 (e .tag)) s3 m3 → Next s3 m3 space s4 m4 → Next s4 m4 (decimal (e .length)) s5 m5 → Next s5 m5 newline s6 m6
+    → Put s0 at (line e) s6 m6
+unfolding line
+line-put e h p q r t u v =
+    let d1 = decimal-length (e .start) in
+    let d2 = decimal-length (e .length) in
+    let l1 = length-append (decimal (e .start)) space in
+    let l2 = length-append (decimal (e .start) ++ space) (hex 4 (e .tag)) in
+    let l3 = length-append (decimal (e .start) ++ space ++ hex 4 (e .tag)) space in
+    let l4 = length-append (decimal (e .start) ++ space ++ hex 4 (e .tag) ++ space) (decimal (e .length)) in
+    put-next (omega arith) (put-next (omega arith) (put-next (omega arith) (put-then (omega arith) (start-put (e .start) 26 h p q) r) t) u) v
 
 -- ---- one line more
 

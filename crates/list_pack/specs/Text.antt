@@ -1,50 +1,27 @@
 -- The listing of a pack, as document 01's "The listing" has it: the bytes that the program writes.
-use Prim.Native.Nat.{ℕ, zero, suc, _+_, _-_, _*_, _/_, _%_, _^_, _≤_, _<_}
-use mathlib.Core.Bool.{Bool, true, false, cond}
+use Prim.Native.Nat.{ℕ, zero, suc, _+_, _/_, _≤_, _<_}
 use mathlib.Core.List.{List, [], _∷_, _++_, append-assoc, append-nil}
-use lib.Dec.{leb, ltb, lit<}
 use mathlib.Core.Path.{_≡_, refl, sym}
-use native.Mathlib.Nat.{pow-suc, one-le-pow, pow-le-pow-right}
 use native.Mathlib.Omega.{arith}
-use borrow.Author.Tests.{lt-ltb, le-ltb, leb-true, leb-false}
 use native.Mathlib.Numerals.{add-one}
 use lib.ListN.{length, getD, take, length-append}
 use lib.Seq.{take-suc}
 use Rattle.pack.specs.declared.Entry.{Entry}
 use Rattle.pack.specs.Reading.{Reading, Ending, whole, refused}
-use Rattle.io.specs.Digits.{digits, glyph, Fewest}
+use Rattle.io.specs.Digits.{digits}
+use Rattle.console.specs.Text.{decimal, space, newline, refusalLine, decimal-length}
 
--- a number in decimal, with no leading zero; it has at most 20 digits
-unfoldable pub decimalOf : ℕ → ℕ → List ℕ
-decimalOf zero n = []
-decimalOf (suc k) n = cond (ltb n 10) (glyph n ∷ []) (decimalOf k (n / 10) ++ (glyph (n % 10) ∷ []))
+-- a number in so many small hex digits: a tag has 4
+abbrev pub hex : ℕ → ℕ → List ℕ
+hex width n = digits 16 width n
 
-abbrev pub decimal : ℕ → List ℕ
-decimal n = decimalOf 20 n
-
--- a tag: four small hex digits
-abbrev pub hex4 : ℕ → List ℕ
-hex4 n = digits 16 4 n
-
-abbrev pub space : List ℕ
-space = 0x20 ∷ []
-
-abbrev pub newline : List ℕ
-newline = 0x0A ∷ []
-
--- `records `, `refused `, ` at `
+-- `records `
 abbrev pub recordsWord : List ℕ
 recordsWord = 0x72 ∷ 0x65 ∷ 0x63 ∷ 0x6F ∷ 0x72 ∷ 0x64 ∷ 0x73 ∷ 0x20 ∷ []
 
-abbrev pub refusedWord : List ℕ
-refusedWord = 0x72 ∷ 0x65 ∷ 0x66 ∷ 0x75 ∷ 0x73 ∷ 0x65 ∷ 0x64 ∷ 0x20 ∷ []
-
-abbrev pub atWord : List ℕ
-atWord = 0x20 ∷ 0x61 ∷ 0x74 ∷ 0x20 ∷ []
-
 -- one line a record: start, tag, value length
 unfoldable pub line : Entry → List ℕ
-line e = decimal (e .start) ++ space ++ hex4 (e .tag) ++ space ++ decimal (e .length) ++ newline
+line e = decimal (e .start) ++ space ++ hex 4 (e .tag) ++ space ++ decimal (e .length) ++ newline
 
 unfoldable pub lines : List Entry → List ℕ
 lines [] = []
@@ -52,9 +29,6 @@ lines (e ∷ es) = line e ++ lines es
 
 unfoldable pub countLine : ℕ → List ℕ
 countLine n = recordsWord ++ decimal n ++ newline
-
-unfoldable pub refusalLine : ℕ → ℕ → List ℕ
-refusalLine n place = refusedWord ++ decimal n ++ atWord ++ decimal place ++ newline
 
 -- the whole output for a reading
 abbrev pub textOf : Ending → List Entry → List ℕ
@@ -66,57 +40,9 @@ text r = textOf (r .ending) (r .entries)
 
 -- ---- lengths
 
-decimalOf-length : (k n : ℕ) → length (decimalOf k n) ≤ k
-unfolding decimalOf
-decimalOf-length zero n = omega arith
-decimalOf-length (suc k) n = go (ltb n 10) (decimalOf-length k (n / 10))
-  where
-    go : (t : Bool) → length (decimalOf k (n / 10)) ≤ k → length (cond t (glyph n ∷ []) (decimalOf k (n / 10) ++ (glyph (n % 10) ∷ []))) ≤ suc k
-    go true h = omega arith
-    go false h = rw length-append (omega arith)
-
-pub decimal-length : (n : ℕ) → length (decimal n) ≤ 20
-decimal-length n = decimalOf-length 20 n
-
-pub hex4-length : (n : ℕ) → length (hex4 n) ≡ 4
-hex4-length n = simp length-append
-
-fewest-before : (k n : ℕ) → 1 < suc k → 10 ^ suc k ≤ n → 10 ^ (suc k - 1) ≤ n / 10
-fewest-before k n l least =
-    let e : suc k - 1 ≡ k = omega arith in
-    let more : 10 ^ k * 10 ≤ n = rw pow-suc at least in
-    rw e (omega arith)
-
--- the fewest digits are those with no leading zero
-pub fewest-decimal : (k j n : ℕ) → k ≤ j → Fewest 10 1 n k → digits 10 k n ≡ decimalOf j n
-unfolding decimalOf
-fewest-decimal zero j n h f = absurd (omega (arith, f .0))
-fewest-decimal (suc zero) (suc j) n h f =
-    let l : n < 10 = f .1 in
-    let e : n % 10 ≡ n = omega arith in
-    rw (e, lt-ltb n 10 l)
-fewest-decimal (suc (suc k)) (suc j) n h f =
-    let p : suc (suc k) - 1 ≡ suc k = omega arith in
-    let least : 10 ^ suc k ≤ n = rw p at (f .2 (omega arith)) in
-    let more : 10 ^ k * 10 ≤ n = rw pow-suc at least in
-    let most : n < 10 ^ suc k * 10 = rw (pow-suc 10 (suc k)) at (f .1) in
-    let one : 1 ≤ 10 ^ k = one-le-pow k 10 (lit< tt) in
-    let rest : digits 10 (suc k) (n / 10) ≡ decimalOf j (n / 10)
-    = fewest-decimal (suc k) j (n / 10) (omega arith) (omega arith, omega arith, λ l. fewest-before k n l least) in
-    rw (le-ltb n 10 (omega arith), rest)
-fewest-decimal (suc k) zero n h f = absurd (omega arith)
-
--- a number below b ^ m has at most m digits
-pub places-most : (b least n k m : ℕ) → 0 < b → n < b ^ m → least ≤ m → Fewest b least n k → k ≤ m
-places-most b least n k m pos h few f = go (leb k m) refl
-  where
-    go : (t : Bool) → leb k m ≡ t → k ≤ m
-    go true e = leb-true k m e
-    go false e =
-        let l : m < k = leb-false k m e in
-        let j : m ≤ k - 1 = omega arith in
-        let p : b ^ m ≤ b ^ (k - 1) = pow-le-pow-right pos j in
-        absurd (omega (arith, f .2 (omega arith)))
+pub hex-length : (width n : ℕ) → length (hex width n) ≡ width
+hex-length zero n = refl
+hex-length (suc width) n = rw (length-append, hex-length width (n / 16)) (omega arith)
 
 pub line-length : (e : Entry) → length (line e) ≤ 47
 unfolding line
@@ -125,10 +51,6 @@ line-length e = simp length-append (omega (arith, decimal-length (e .start), dec
 pub count-length : (n : ℕ) → length (countLine n) ≤ 29
 unfolding countLine
 count-length n = simp length-append (omega (arith, decimal-length n))
-
-pub refusal-length : (n place : ℕ) → length (refusalLine n place) ≤ 53
-unfolding refusalLine
-refusal-length n place = simp length-append (omega (arith, decimal-length n, decimal-length place))
 
 -- one line more
 pub lines-append : (es ds : List Entry) → lines (es ++ ds) ≡ lines es ++ lines ds

@@ -1,44 +1,30 @@
 // Lists a pack that it reads from standard input.
 ghost use mathlib.Core.Path.{_≡_};
-ghost use Prim.Native.Nat.{_+_, _≤_};
+ghost use Prim.Native.Nat.{_+_, _^_, _≤_, _<_};
 ghost use lib.ListN.{length, take};
 ghost use Rattle.refusals.specs.Limit.{packLimit};
 ghost use Rattle.pack.specs.Reading.{reading};
 ghost use Rattle.pack.specs.Scan.{scannedOf, scanned, listAfter};
-ghost use Rattle.list_pack.specs.Put.{Put};
-ghost use Rattle.list_pack.specs.Text.{decimal, hex4, line, lines, countLine, refusalLine, text};
-ghost use Rattle.list_pack.specs.Listing.{noEntries, Fits};
+ghost use Rattle.console.specs.Put.{Put};
+ghost use Rattle.list_pack.specs.Text.{hex, line, lines, countLine, text};
+ghost use Rattle.list_pack.specs.Listing.{noEntries};
+use console::Input;
+use console::put;
+use console::put_decimal;
+use console::put_refusal;
 use libc::STDERR_FILENO;
-use libc::STDIN_FILENO;
 use libc::STDOUT_FILENO;
 use pack::Entry;
 use pack::Scanned;
 
 // Each of the functions below writes at a place of a buffer that has room, and answers the place
 // after what it wrote.
-fn put(out: &mut [u8], at: usize, text: &[u8]) -> usize
-    requires { ⌜ at + length (now text) ≤ length (now out) ⌝ }
-    ensures { λ r. ⌜ Put (now (out .entry)) at (now (text .entry)) (now (out .exit)) r ⌝ }
-{
-    slices::write_bytes(out, at, text);
-    at + text.len()
-}
-
-fn put_decimal(out: &mut [u8], at: usize, n: u64) -> usize
-    requires { ⌜ at + 20 ≤ length (now out) ⌝ }
-    ensures { λ r. ⌜ Put (now (out .entry)) at (decimal n) (now (out .exit)) r ⌝ }
-{
-    let mut digits = [0u8; 20];
-    let k = io::decimal(n, &mut digits);
-    put(out, at, &digits[..k])
-}
-
-fn put_hex4(out: &mut [u8], at: usize, n: u16) -> usize
-    requires { ⌜ at + 4 ≤ length (now out) ⌝ }
-    ensures { λ r. ⌜ Put (now (out .entry)) at (hex4 n) (now (out .exit)) r ⌝ }
+fn put_hex(out: &mut [u8], at: usize, n: u64, width: usize) -> usize
+    requires { ⌜ ((1 ≤ width) × (width ≤ 16)) × ((n < 16 ^ width) × (at + width ≤ length (now out))) ⌝ }
+    ensures { λ r. ⌜ Put (now (out .entry)) at (hex width n) (now (out .exit)) r ⌝ }
 {
     let mut digits = [0u8; 16];
-    let k = io::hex(n as u64, 4, &mut digits);
+    let k = io::hex(n, width, &mut digits);
     put(out, at, &digits[..k])
 }
 
@@ -49,7 +35,7 @@ fn put_line(out: &mut [u8], at: usize, e: Entry) -> usize
 {
     let start = put_decimal(out, at, e.start as u64);
     let before = put(out, start, b" ");
-    let tag = put_hex4(out, before, e.tag);
+    let tag = put_hex(out, before, e.tag as u64, 4);
     let after = put(out, tag, b" ");
     let length = put_decimal(out, after, e.length);
     put(out, length, b"\n")
@@ -62,17 +48,6 @@ fn put_count(out: &mut [u8], at: usize, n: usize) -> usize
     let word = put(out, at, b"records ");
     let count = put_decimal(out, word, n as u64);
     put(out, count, b"\n")
-}
-
-fn put_refusal(out: &mut [u8], number: u8, place: usize) -> usize
-    requires { ⌜ 53 ≤ length (now out) ⌝ }
-    ensures { λ r. ⌜ Put (now (out .entry)) 0 (refusalLine number place) (now (out .exit)) r ⌝ }
-{
-    let word = put(out, 0, b"refused ");
-    let after = put_decimal(out, word, number as u64);
-    let between = put(out, after, b" at ");
-    let end = put_decimal(out, between, place as u64);
-    put(out, end, b"\n")
 }
 
 // ---- the records of the pack
@@ -157,51 +132,11 @@ fn show_failure() {
     io::write_all(STDERR_FILENO, b"list_pack: standard input cannot be read\n");
 }
 
-pub enum Input {
-    Bytes(usize),
-    Failed,
-}
-
-// Reads until the buffer is full or the input ends: a read may give fewer bytes than there are.
-fn read_input(buffer: &mut [u8]) -> Input
-    ensures { λ r. ⌜ Fits r (length (now (buffer .entry))) ⌝ }
-{
-    let mut n: usize = 0;
-    while n < buffer.len() {
-        let got = libc::read(STDIN_FILENO, &mut buffer[n..]);
-        if got < 0 {
-            return Input::Failed;
-        }
-        let more = io::count(got, &buffer[n..]);
-        if more == 0 {
-            return Input::Bytes(n);
-        }
-        n += more;
-    }
-    Input::Bytes(n)
-}
-
-// What was read is listed, if it is all that there is.
-fn list(pack: &[u8])
-    requires { ⌜ length (now pack) ≤ 65536 ⌝ }
-{
-    let mut next = [0u8; 1];
-    match read_input(&mut next) {
-        Input::Bytes(more) => {
-            if more == 0 {
-                show(pack);
-            } else {
-                show_too_long();
-            }
-        }
-        Input::Failed => show_failure(),
-    }
-}
-
 fn main() {
     let mut buffer = [0u8; 65536];
-    match read_input(&mut buffer) {
-        Input::Bytes(n) => list(&buffer[..n]),
+    match console::read_input(&mut buffer) {
+        Input::Bytes(n) => show(&buffer[..n]),
+        Input::TooLong => show_too_long(),
         Input::Failed => show_failure(),
     }
 }

@@ -1,4 +1,4 @@
 mod Roles
 mod Places
 mod Visits
-mod Names
+mod Comparisons

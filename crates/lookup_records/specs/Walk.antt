@@ -29,6 +29,10 @@ Checked s at = records at 0 (drop at s) .ending ≡ whole
 pub walk-start : (limit : ℕ) (s : List ℕ) → reading limit s .ending ≡ whole → Checked s 0
 walk-start limit s e = ap (λ (r : Reading). r .ending) (sym (accepted-reading limit s e)) ∙ e
 
+pub walk-all : (limit : ℕ) (s : List ℕ) → reading limit s .ending ≡ whole → map (placed limit s) (reading limit s .entries) ≡ placedFrom limit s 0
+unfolding placedFrom
+walk-all limit s e = rw (accepted-reading limit s e)
+
 -- at the end nothing is left
 pub walk-end : (limit : ℕ) (s : List ℕ) (at : ℕ) → length s ≤ at → placedFrom limit s at ≡ []
 unfolding placedFrom

@@ -4,9 +4,11 @@ ghost use mathlib.Core.Path.{_≡_};
 ghost use mathlib.Core.Option.{some};
 ghost use Rattle.refusals.specs.Limit.{packLimit};
 ghost use Rattle.slices.specs.Places.{partAt};
+ghost use Rattle.identifier.specs.Identity.{identity, sameIdentity};
 ghost use Rattle.identifier.specs.Held.{hasName};
 ghost use Rattle.primary.specs.Answers.{textsIn};
 ghost use Rattle.records.specs.Answers.{placeOfPart};
+ghost use Rattle.current_version.specs.Current.{deletes};
 ghost use Rattle.lookup_records.specs.Answers.{roleFor, roleBut, roleIn, RoleInside, Visits};
 use primary::Texts;
 use records::Kind;
@@ -91,4 +93,26 @@ pub fn has_name(pack: &[u8], t: Texts, bucket: &[u8], object: &[u8]) -> bool
         return false;
     }
     slices::same_bytes(slices::part(pack, t.object), object)
+}
+
+// Whether an identifier is this one: the ULID, which tells most apart, is compared first.
+pub fn has_identifier(pack: &[u8], t: Texts, ulid: &[u8], bucket: &[u8], object: &[u8]) -> bool
+    ensures { λ r. ⌜ r ≡ sameIdentity (textsIn (now (pack .entry)) t) (identity (now (ulid .entry)) (now (bucket .entry)) (now (object .entry))) ⌝ }
+{
+    if !slices::same_bytes(slices::part(pack, t.ulid), ulid) {
+        return false;
+    }
+    has_name(pack, t, bucket, object)
+}
+
+// Whether the record is a version delete that names this version.
+pub fn names(pack: &[u8], role: Role, ulid: &[u8], bucket: &[u8], object: &[u8]) -> bool
+    ensures { λ r. ⌜ r ≡ deletes (identity (now (ulid .entry)) (now (bucket .entry)) (now (object .entry))) (roleIn (now (pack .entry)) role) ⌝ }
+{
+    match role {
+        Role::Deletion(t) => has_identifier(pack, t, ulid, bucket, object),
+        Role::Version(_, _, _) => false,
+        Role::Other => false,
+        Role::Unreadable(_) => false,
+    }
 }

@@ -1,6 +1,6 @@
 -- When a pack is accepted, and what its reading says. The records of a list, one after the other, are its layouts; where a fault is met, the front
 -- up to it is accepted by itself.
-use Prim.Native.Nat.{ℕ, zero, suc, _+_, _≤_}
+use Prim.Native.Nat.{ℕ, zero, suc, _+_, _*_, _≤_}
 use mathlib.Core.Bool.{Bool, true, false, cond}
 use mathlib.Core.List.{List, [], _∷_, _++_, append-assoc, append-nil}
 use mathlib.Core.Logic.{_↔_, _⊎_, inl, inr, ⊎-elim}
@@ -181,6 +181,11 @@ entries-fill at (r ∷ rs) =
     let stop : at + length (layout r ++ layouts rs) ≡ (at + length (layout r)) + length (layouts rs) = rw length-append (omega arith) in
     (refl, rw (next, stop) (entries-fill (at + length (layout r)) rs))
 
+-- each of them has 32 bytes at least
+fills-count : (at : ℕ) (es : List Entry) (stop : ℕ) → Fills at es stop → at + 32 * length es ≤ stop
+fills-count at [] stop f = omega arith
+fills-count at (e ∷ es) stop f = omega (arith, fills-count (at + (32 + e .length)) es stop (f .1))
+
 -- ---- within a limit
 
 module _ (limit : ℕ) (s : List ℕ) (within : length s ≤ limit) where
@@ -213,6 +218,9 @@ module _ (limit : ℕ) (s : List ℕ) (within : length s ≤ limit) where
         let l = accepted-layouts e in
         subst₂ (Fills 0) (ap (λ (x : Reading). x .entries) (sym (layouts-accepted (l .0) (l .1) (l .2))))
         (zero-add (length (layouts (l .0))) ∙ ap length (l .2)) (entries-fill 0 (l .0))
+
+    pub accepted-count : reading limit s .ending ≡ whole → 32 * length (reading limit s .entries) ≤ length s
+    accepted-count e = omega (arith, fills-count 0 (reading limit s .entries) (length s) (accepted-fills e))
 
 -- a refusal's place is where the records before it end; the front up to there is accepted, with their entries
 pub record Refusal (limit : ℕ) (s : List ℕ) (n place : ℕ) : Type 0 where

@@ -78,6 +78,11 @@ fn of_pack(number: u8) -> bool {
     number <= 8
 }
 
+/// All but what was handed in, of a lookup.
+fn of_lookup(number: u8) -> bool {
+    !matches!(number, 19 | 20)
+}
+
 /// One record of a pack, as [`scan`] tells it.
 #[derive(Clone, Copy, Debug, Default, PartialEq, Eq)]
 #[repr(C)]
@@ -141,6 +146,30 @@ pub struct Current<'a> {
     /// Whether it is a delete marker.
     pub deleted: bool,
 }
+
+/// One version record of a name, as [`explain`] tells it.
+#[derive(Clone, Copy, Debug, Default, PartialEq, Eq)]
+#[repr(C)]
+pub struct Line {
+    /// Where the record starts in the pack.
+    pub start: u64,
+    /// [`CURRENT`], [`CURRENT_MARKER`], [`OLDER`], [`REPEATED`] or [`REMOVED`].
+    pub reason: u64,
+    /// Where another record starts: of an older one the current one, of a repeated one the earliest with
+    /// its identifier, of a removed one the earliest deletion of it; of the current one its own start.
+    pub place: u64,
+}
+
+/// The current version.
+pub const CURRENT: u64 = 0;
+/// The current version, which is a delete marker.
+pub const CURRENT_MARKER: u64 = 1;
+/// Another version is current, and its ULID is greater.
+pub const OLDER: u64 = 2;
+/// An earlier version record has the same identifier.
+pub const REPEATED: u64 = 3;
+/// A version delete names it.
+pub const REMOVED: u64 = 4;
 
 /// One entry of a pack list, as [`pack_list`] tells it: which range of the version is stored in which
 /// range of a pack.
@@ -235,11 +264,9 @@ pub fn current<'a>(
     object: &[u8],
 ) -> Result<Option<Current<'a>>, Refusal> {
     let (mut told, mut ulid) = ([0; 4], [0; ULID]);
-    // All but what was handed in.
-    let placed = |number| !matches!(number, 19 | 20);
     word(
         raw::current(pack, bucket, object, &mut told, &mut ulid),
-        placed,
+        of_lookup,
     )?;
     let [found, start, length, deleted] = told;
     Ok((found == 1).then(|| Current {
@@ -248,6 +275,23 @@ pub fn current<'a>(
         bytes: range(pack, start + HEADER as u64, length),
         deleted: deleted == 1,
     }))
+}
+
+/// How many version records an object has; `lines` gets one line for each, in order, which says why it is
+/// current or is not.
+///
+/// Refused as [`current`] is, or with 19 where `lines` is too short. A pack has at most one record for
+/// each [`HEADER`] of its bytes.
+pub fn explain(
+    pack: &[u8],
+    bucket: &[u8],
+    object: &[u8],
+    lines: &mut [Line],
+) -> Result<usize, Refusal> {
+    // SAFETY: a line is three numbers, laid out as in C, and any numbers are a line.
+    let told =
+        unsafe { std::slice::from_raw_parts_mut(lines.as_mut_ptr().cast(), 3 * lines.len()) };
+    word(raw::explain(pack, bucket, object, told), of_lookup).map(|count| count as usize)
 }
 
 /// How many entries a pack list has, by its primary part; `entries` gets them, in order.

@@ -29,6 +29,16 @@ extern "C" {
         ulid: *mut u8,
         ulid_length: usize,
     ) -> u64;
+    fn vof_explain(
+        pack: *const u8,
+        length: usize,
+        bucket: *const u8,
+        bucket_length: usize,
+        object: *const u8,
+        object_length: usize,
+        told: *mut u64,
+        told_length: usize,
+    ) -> u64;
     fn vof_pack_list(primary: *const u8, length: usize, told: *mut u64, told_length: usize) -> u64;
     fn vof_find_block(
         primary: *const u8,
@@ -137,6 +147,24 @@ pub fn current(
             told.len(),
             ulid.as_mut_ptr(),
             ulid.len(),
+        )
+    }
+}
+
+/// Word: the place of refusals 1 to 18 and 22, else how many version records the name has. Told of each:
+/// its start; 0 current, 1 current marker, 2 older, 3 repeated, 4 removed; the place of the record that
+/// makes it so.
+pub fn explain(pack: &[u8], bucket: &[u8], object: &[u8], told: &mut [u64]) -> u64 {
+    unsafe {
+        vof_explain(
+            pack.as_ptr(),
+            pack.len(),
+            bucket.as_ptr(),
+            bucket.len(),
+            object.as_ptr(),
+            object.len(),
+            told.as_mut_ptr(),
+            told.len(),
         )
     }
 }

@@ -17,7 +17,7 @@ fn starts(records: &[Vec<u8>]) -> Vec<usize> {
 fn read(compare: &mut Compare, pack: &[u8], at: usize) {
     compare.scan(pack);
     compare.record(pack, at);
-    compare.current(pack, b"herd", b"list");
+    compare.object(pack, b"herd", b"list");
 }
 
 pub fn value_lengths(compare: &mut Compare, random: &mut Random) {
@@ -52,7 +52,7 @@ pub fn random_packs(compare: &mut Compare, random: &mut Random) {
         }
         for _ in 0..2 {
             let name = few_identifiers(random);
-            compare.current(&pack, &name.bucket, &name.object);
+            compare.object(&pack, &name.bucket, &name.object);
         }
         for record in &list {
             compare.value(&record[32..]);

@@ -23,7 +23,7 @@ fn hex(text: &str) -> Vec<u8> {
 /// A pack with so many records, or with a refusal.
 fn pack(compare: &mut Compare, name: &str, pack: &[u8], wanted: Result<usize, (u8, u64)>) {
     compare.scan(pack);
-    compare.current(pack, b"herd", b"k");
+    compare.object(pack, b"herd", b"k");
     compare.record(pack, 0);
     let found = read_pack(pack).map(|entries| entries.len());
     let wanted = wanted.map_err(|(number, place)| Refusal {
@@ -156,7 +156,7 @@ pub fn lookups(compare: &mut Compare, _: &mut Random) {
         let mut names = field(&mut input);
         while !names.is_empty() {
             let (bucket, object) = (field(&mut names), field(&mut names));
-            compare.current(pack, bucket, object);
+            compare.object(pack, bucket, object);
             let rest = stdout.strip_prefix(&told(title, pack, bucket, object)[..]);
             compare.hold("the stored answer", &[pack, bucket, object], rest.is_some());
             stdout = rest.unwrap();

@@ -82,7 +82,7 @@ pub fn primary_orders(compare: &mut Compare, random: &mut Random) {
     let mut read = |tag: &[u8; 2], primary: &[u8]| {
         let pack = with_primary(tag, primary);
         compare.record(&pack, 0);
-        compare.current(&pack, b"herd", b"list/2");
+        compare.object(&pack, b"herd", b"list/2");
     };
     every_map(marker, |part| read(b"vr", part));
     every_map(&by, |part| read(b"vd", part));
@@ -132,7 +132,7 @@ pub fn pairs_of(map: Tree) -> Vec<(Tree, Tree)> {
 fn primary(compare: &mut Compare, tag: &[u8; 2], primary: Tree) {
     let pack = with_primary(tag, &primary.shortest());
     compare.record(&pack, 0);
-    compare.current(&pack, b"herd", b"list");
+    compare.object(&pack, b"herd", b"list");
     match tag {
         b"vr" => compare.write_version(0, &primary.shortest()),
         b"vd" => compare.write_delete(0, &primary.shortest()),
@@ -316,7 +316,7 @@ fn nested_values(compare: &mut Compare, deep: &[u8]) {
         for tag in [b"bk", b"vr", b"vd", b"ol", b"xx"] {
             let pack = record(*tag, &value);
             compare.record(&pack, 0);
-            compare.current(&pack, b"herd", b"list");
+            compare.object(&pack, b"herd", b"list");
         }
     }
 }

@@ -83,9 +83,9 @@ fn too_long(compare: &mut Compare, pack: &[u8]) {
     ] {
         compare.record(pack, at);
     }
-    compare.current(pack, b"herd", b"k");
-    compare.current(pack, b"herd", b"");
-    compare.current(pack, b"he/rd", b"k");
+    compare.object(pack, b"herd", b"k");
+    compare.object(pack, b"herd", b"");
+    compare.object(pack, b"he/rd", b"k");
 }
 
 /// Data, texts and primary parts that no pack has room for.
@@ -112,8 +112,8 @@ fn handed_in(compare: &mut Compare, long: &[u8]) {
         compare.inputs += 6;
         let kept = buffer == pattern_bytes(200);
         compare.hold("too long to be written", &[], kept && answers == [20; 6]);
-        compare.current(b"", long, b"k");
-        compare.current(b"", b"herd", long);
+        compare.object(b"", long, b"k");
+        compare.object(b"", b"herd", long);
     }
 }
 

@@ -33,11 +33,11 @@ fn name(compare: &mut Compare, ulid: &[u8], bucket: &[u8], object: &[u8]) {
     ];
     for record in &records {
         compare.record(record, 0);
-        compare.current(record, bucket, object);
+        compare.object(record, bucket, object);
     }
-    compare.current(&records.concat(), bucket, object);
-    compare.current(b"no pack", bucket, object);
-    compare.current(b"", bucket, object);
+    compare.object(&records.concat(), bucket, object);
+    compare.object(b"no pack", bucket, object);
+    compare.object(b"", bucket, object);
 }
 
 /// A composite text, handed to the writer, in a block and in a pack list.
@@ -116,7 +116,7 @@ fn ulid(compare: &mut Compare, ulid: &[u8]) {
         for tag in [b"vr", b"vd"] {
             let pack = with_primary(tag, &part);
             compare.record(&pack, 0);
-            compare.current(&pack, b"herd", b"k");
+            compare.object(&pack, b"herd", b"k");
         }
         compare.write_delete(0, &part);
     }

@@ -138,6 +138,7 @@ fn names(pack: &[u8]) -> Vec<Identifier> {
     let (versions, gone) = versions(pack).unwrap();
     let there = versions.into_iter().map(|version| version.identifier);
     let others = NAMES.map(|(bucket, object)| identifier(ULIDS[0], bucket, object));
+    let gone = gone.into_iter().map(|(_, identifier)| identifier);
     let mut names: Vec<Identifier> = there.chain(gone).chain(others).collect();
     names.sort_by(|a, b| (&a.bucket, &a.object).cmp(&(&b.bucket, &b.object)));
     names.dedup_by(|a, b| (&a.bucket, &a.object) == (&b.bucket, &b.object));
@@ -227,7 +228,7 @@ fn order(compare: &mut Compare, random: &mut Random, mut list: Vec<Vec<u8>>) {
     random.shuffle(&mut list);
     let shuffled = list.concat();
     for name in names(&pack) {
-        compare.current(&shuffled, &name.bucket, &name.object);
+        compare.object(&shuffled, &name.bucket, &name.object);
         if equal {
             let same = answer(&shuffled, &name) == answer(&pack, &name);
             compare.hold("the order plays no part", &[&pack, &shuffled], same);

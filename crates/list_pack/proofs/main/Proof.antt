@@ -5,8 +5,8 @@ use Prim.Native.Nat.{ℕ, _≤_}
 use native.Mathlib.Omega.{arith}
 use lib.ListN.{length, length-replicate}
 use lib.Seq.{length-take-le}
-use Rattle.list_pack.specs.Listing.{Fits}
-use Rattle.list_pack.specs.declared.Input.{Input}
+use Rattle.console.specs.Inputs.{Fits}
+use Rattle.console.specs.declared.Input.{Input}
 use Rattle.list_pack.proofs.main.Statement.{statement}
 use Rattle.list_pack.proofs.main.Tie as tie
 
@@ -21,28 +21,27 @@ enum-known-n c = search needs
 
 -- what was read lies within the buffer
 inside : (c : tie.After-known-told) → c .before .n .given .0 .0 ≤ length (c .before .before .before .before .read-input .last .0)
-inside c =
-    let r = c .before .before .before .before .read-input in
-    let f = subst (λ (x : Input). Fits x _) (c .before .n .given .1) (r .ensures) in
-    omega (arith, f, r .kept .0)
-
-few : (c : tie.After-known-told) → c .before .n .given .0 .0 ≤ 65536
-few c =
-    let r = c .before .before .before .before .read-input in
-    let f = subst (λ (x : Input). Fits x _) (c .before .n .given .1) (r .ensures) in
-    omega (arith, f, length-replicate {A = ℕ} 65536 0)
+inside c = subst (λ (x : Input). Fits x (c .before .before .before .before .read-input .last .0)) (c .before .n .given .1) (c .before .before .before .before .read-input .ensures)
 
 array-share-prefix-buffer : tie.Need-array-share-prefix-buffer
 array-share-prefix-buffer c = inside c
 
-slice-aggregate-list : tie.Need-slice-aggregate-list
-slice-aggregate-list c = sym (length-take-le (c .before .before .n .given .0 .0) (c .before .before .before .before .before .read-input .last .0) (inside (c .before)))
+slice-aggregate-show : tie.Need-slice-aggregate-show
+slice-aggregate-show c = sym (length-take-le (c .before .before .n .given .0 .0) (c .before .before .before .before .before .read-input .last .0) (inside (c .before)))
 
-list-requires : tie.Need-list-requires
-list-requires c κs = rw (length-take-le (c .before .before .n .given .0 .0) (c .before .before .before .before .before .read-input .last .0) (inside (c .before))) (few (c .before))
+show-requires : tie.Need-show-requires
+show-requires c κs =
+    rw (length-take-le (c .before .before .n .given .0 .0) (c .before .before .before .before .before .read-input .last .0) (inside (c .before)))
+    (omega (arith, inside (c .before), c .before .before .before .before .before .read-input .kept .0, length-replicate {A = ℕ} 65536 0))
 
 enum-told : tie.Need-enum-told
 enum-told c = search needs
+
+show-too-long-requires : tie.Need-show-too-long-requires
+show-too-long-requires c κs = search needs
+
+enum-told-2 : tie.Need-enum-told-2
+enum-told-2 c = search needs
 
 show-failure-requires : tie.Need-show-failure-requires
 show-failure-requires c κs = search needs
@@ -53,6 +52,9 @@ returns c = search needs
 returns-2 : tie.Need-returns-2
 returns-2 c = search needs
 
+returns-3 : tie.Need-returns-3
+returns-3 c = search needs
+
 pub main-spec : {M : Type 1} → statement M
 main-spec =
     tie.close
@@ -61,9 +63,12 @@ main-spec =
     read-input-requires
     enum-known-n
     array-share-prefix-buffer
-    slice-aggregate-list
-    list-requires
+    slice-aggregate-show
+    show-requires
     enum-told
+    show-too-long-requires
+    enum-told-2
     show-failure-requires
     returns
-    returns-2)
+    returns-2
+    returns-3)

@@ -1,8 +1,7 @@
 -- `list_pack::put_count` meets its contract. Its parts, one after the other, are the line, and each has room.
 use borrow.Author.Needs.{needs}
-use native.Mathlib.Omega.{arith}
-use Rattle.list_pack.specs.Text.{decimal-length}
-use Rattle.list_pack.proofs.Lines.{count-put}
+use Rattle.console.proofs.Lines.{numbered-put}
+use Rattle.list_pack.specs.Text.{recordsWord, countLine}
 use Rattle.list_pack.proofs.put_count.Statement.{statement}
 use Rattle.list_pack.proofs.put_count.Tie as tie
 
@@ -19,15 +18,16 @@ slice-aggregate-put-2 : tie.Need-slice-aggregate-put-2
 slice-aggregate-put-2 c = search needs
 
 put-requires-2 : tie.Need-put-requires-2
-put-requires-2 c κs = omega (arith, decimal-length (c .before .before .before .before .before .before .before .before .before .before .before .before .args .n))
+put-requires-2 c κs = search needs
 
 same-length : tie.Need-same-length
 same-length c = search needs
 
 returns : tie.Need-returns
+unfolding countLine
 returns c =
     let b = c .before .before .before .before .before .before .before .before .before .before .before .before .before .before .before in
-    count-put (b .args .n) (b .pre) (c .before .before .before .before .before .before .before .before .before .before .before .put .ensures) (c .before .before .before .before .before .before .before .put-decimal .ensures) (c .before .before .put2 .ensures)
+    numbered-put recordsWord (b .args .n) (b .pre) (c .before .before .before .before .before .before .before .before .before .before .before .put .ensures) (c .before .before .before .before .before .before .before .put-decimal .ensures) (c .before .before .put2 .ensures)
 
 pub put-count-spec : {M : Type 1} → statement M
 put-count-spec =

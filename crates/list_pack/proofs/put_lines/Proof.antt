@@ -1,4 +1,4 @@
--- `list_pack::put_lines` meets its contract. The invariant: the lines of the first i entries have been put, of at most 47 bytes each.
+-- `list_pack::put_lines` meets its contract. The invariant: the lines of the first i entries have been put, of at most 64 bytes each.
 use borrow.Author.Needs.{needs}
 use mathlib.Core.Path.{_≡_}
 use Prim.Native.Nat.{_-_, _≤_}

@@ -33,7 +33,7 @@ enum-told : tie.Need-enum-told
 enum-told c = search needs
 
 put-refusal-requires : tie.Need-put-refusal-requires
-put-refusal-requires c κs = omega (arith, c .before .before .before .before .before .before .before .pre .1)
+put-refusal-requires c κs = search needs
 
 enum-known-scanned-2 : tie.Need-enum-known-scanned-2
 enum-known-scanned-2 c = search needs
@@ -42,7 +42,7 @@ number-requires : tie.Need-number-requires
 number-requires c κs = search needs
 
 put-refusal-requires-2 : tie.Need-put-refusal-requires-2
-put-refusal-requires-2 c κs = omega (arith, c .before .before .before .before .before .before .before .before .before .pre .1)
+put-refusal-requires-2 c κs = search needs
 
 enum-told-2 : tie.Need-enum-told-2
 enum-told-2 c = search needs
@@ -61,7 +61,7 @@ same-length-2 c = search needs
 returns-2 : tie.Need-returns-2
 returns-2 c =
     let r = reading packLimit (c .before .before .before .before .before .before .before .before .before .before .args .pack .now) in
-    refusal-put r 1 0 (refusal r 1 0 (ap scannedOf (sym (c .before .before .before .before .enum-told .given .1)) ∙ c .before .before .before .before .before .before .before .scan-all .ensures .0)) (c .before .before .put-refusal .ensures)
+    refusal-put r 1 0 (c .before .before .before .before .before .before .before .before .before .before .pre .1) (refusal r 1 0 (ap scannedOf (sym (c .before .before .before .before .enum-told .given .1)) ∙ c .before .before .before .before .before .before .before .scan-all .ensures .0)) (c .before .before .put-refusal .ensures)
 
 same-length-3 : tie.Need-same-length-3
 same-length-3 c = search needs
@@ -72,7 +72,7 @@ returns-3 c =
     let n = c .before .before .before .number .result in
     let at = c .before .before .before .before .before .before .scanned2 .given .0 .1 .0 in
     let answer = ap scannedOf (sym (c .before .before .before .before .before .before .scanned2 .given .1)) ∙ c .before .before .before .before .before .before .before .before .before .scan-all .ensures .0 in
-    refusal-put r n at (refusal r n at (ap (λ (k : ℕ). refused k at) (c .before .before .before .number .ensures) ∙ answer)) (c .before .before .put-refusal2 .ensures)
+    refusal-put r n at (c .before .before .before .before .before .before .before .before .before .before .before .before .pre .1) (refusal r n at (ap (λ (k : ℕ). refused k at) (c .before .before .before .number .ensures) ∙ answer)) (c .before .before .put-refusal2 .ensures)
 
 returns-4 : tie.Need-returns-4
 returns-4 c =

@@ -5,7 +5,7 @@ use Prim.Native.Nat.{ℕ, _≤_}
 use native.Mathlib.Omega.{arith}
 use lib.ListN.{length, length-replicate}
 use lib.Seq.{length-take-le}
-use Rattle.list_pack.specs.Text.{refusal-length}
+use Rattle.console.specs.Text.{refusal-length}
 use Rattle.list_pack.proofs.show_too_long.Statement.{statement}
 use Rattle.list_pack.proofs.show_too_long.Tie as tie
 
@@ -16,7 +16,7 @@ put-refusal-requires : tie.Need-put-refusal-requires
 put-refusal-requires c κs = search needs
 
 inside : (c : tie.After-put-refusal) → c .put-refusal .result ≤ length (c .put-refusal .last .0)
-inside c = omega (arith, c .put-refusal .ensures .place, refusal-length 1 0, c .put-refusal .kept .0, length-replicate {A = ℕ} 64 0)
+inside c = omega (arith, c .put-refusal .ensures .fits (omega (arith, length-replicate {A = ℕ} 64 0)) .place, refusal-length 1 0, c .put-refusal .kept .0, length-replicate {A = ℕ} 64 0)
 
 array-share-prefix-out : tie.Need-array-share-prefix-out
 array-share-prefix-out c = inside (c .before)

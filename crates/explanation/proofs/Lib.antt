@@ -1,0 +1,4 @@
+mod Searches
+mod Rows
+mod Lines
+mod Endings
