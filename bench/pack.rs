@@ -98,7 +98,7 @@ fn check(pack: &mut [u8], told: &mut [u64]) {
 
 fn main() {
     let mut pack = generate();
-    let mut told = vec![0; 3 * RECORDS];
+    let mut told = vec![0; 4 * RECORDS];
     check(&mut pack, &mut told);
     println!("Pack scan, best round of each; proved/Rust under 1.00 means that proved is faster");
     println!("   bytes   records   proved ms   Rust ms   proved/Rust   proved GB/s   Rust GB/s");

@@ -4,10 +4,10 @@
    Every input has an answer: a result, or a refusal with a number from 1 to 22.
    docs/REFUSALS.md says what each number means and what to do about it.
 
-   Each function but vof_xxh64 answers number + 256 * word, which vof_number and vof_word take
-   apart. The number is that of the refusal, or 0. The word is 0 where nothing else is said. "With
-   the place" means that the word is where in the pack the record at fault starts. A refusal writes
-   nothing into lent memory.
+   Each function but vof_version and vof_xxh64 answers number + 256 * word, which vof_number and
+   vof_word take apart. The number is that of the refusal, or 0. The word is 0 where nothing else is
+   said. "With the place" means that the word is where in the pack the record at fault starts. A
+   refusal writes nothing into lent memory.
 
    The caller owes what C cannot test: memory of the length that is said, numbers aligned as
    uint64_t is, no memory lent for writing that overlaps other memory handed in, and no other thread
@@ -24,6 +24,14 @@
 extern "C" {
 #endif
 
+/* The version of what this file declares. It grows with each change that a caller built before
+   would misread; the shared object's soname has it. A program may compare it with vof_version().
+   1 had no number, told three numbers of each record, and named the tag "vr" VOF_VERSION. */
+#define VOF_VERSION 2
+
+/* The library's version. */
+uint64_t vof_version(void);
+
 /* The refusal's number, or 0. */
 static inline unsigned vof_number(uint64_t answer) { return (unsigned)(answer % 256); }
 
@@ -32,10 +40,10 @@ static inline uint64_t vof_word(uint64_t answer) { return answer / 256; }
 
 /* Tags of the records that can be read one by one: "bk", "vr", "vd" and "ol" as numbers. */
 enum {
-    VOF_BLOCK = 0x626B,
-    VOF_VERSION = 0x7672,
-    VOF_VERSION_DELETE = 0x7664,
-    VOF_PACK_LIST = 0x6F6C
+    VOF_TAG_BLOCK = 0x626B,
+    VOF_TAG_VERSION = 0x7672,
+    VOF_TAG_VERSION_DELETE = 0x7664,
+    VOF_TAG_PACK_LIST = 0x6F6C
 };
 
 enum {
@@ -50,13 +58,27 @@ uint64_t vof_xxh64(const uint8_t *data, size_t data_length);
 /* ---- reading */
 
 /* What vof_scan tells of each record. */
-enum { VOF_SCAN_START, VOF_SCAN_TAG, VOF_SCAN_VALUE_LENGTH, VOF_SCAN_NUMBERS };
+enum {
+    VOF_SCAN_START,
+    VOF_SCAN_TAG,
+    VOF_SCAN_VALUE_LENGTH,
+    /* The XXH64 of the value, which the record's header has too. */
+    VOF_SCAN_VALUE_HASH,
+    VOF_SCAN_NUMBERS
+};
 
 /* Checks a pack, and lists its records in their order.
    Word: how many there are. `told` then has VOF_SCAN_NUMBERS numbers for each, and keeps the rest.
    A pack has at most one record for each 32 of its bytes.
    Refusals: 1 to 8, with the place; 19 where `told` is too short for all records. */
 uint64_t vof_scan(const uint8_t *pack, size_t pack_length, uint64_t *told, size_t told_length);
+
+/* Looks for a value by its hash, among records as vof_scan tells them. A rest of fewer than
+   VOF_SCAN_NUMBERS numbers plays no part.
+   Word: 1 plus the place in that list, counted from 0, of the first record with this hash; 0 where
+   none has it.
+   Refusal: 20 where there are more than 2^34 numbers. */
+uint64_t vof_find_hash(const uint64_t *told, size_t told_length, uint64_t hash);
 
 /* What vof_record tells. Starts are places in the pack; questions are answered by 0 or 1. */
 enum {

@@ -4,7 +4,7 @@
 
     pack = open("samples/herd.pack", "rb").read()
     for entry in vof.scan(pack):
-        print(entry.start, entry.tag, entry.value_length)
+        print(entry.start, entry.tag, entry.value_length, "%016x" % entry.value_hash)
     version = vof.current(pack, "herd", "signers/list")
     if version is None or version.is_delete_marker:
         print("there is no such object")
@@ -49,6 +49,8 @@ class Entry(NamedTuple):
     start: int
     tag: bytes
     value_length: int
+    # The XXH64 of the value.
+    value_hash: int
 
 
 class Place(NamedTuple):
@@ -153,8 +155,10 @@ _BYTES, _SIZE, _NUMBER = ctypes.c_void_p, ctypes.c_size_t, ctypes.c_uint64
 _NUMBERS = ctypes.POINTER(ctypes.c_uint64)
 _READ, _TOLD, _WRITE = [_BYTES, _SIZE], [_NUMBERS, _SIZE], [_BYTES, _SIZE, _SIZE]
 _FUNCTIONS = {
+    "vof_version": [],
     "vof_xxh64": _READ,
     "vof_scan": _READ + _TOLD,
+    "vof_find_hash": _TOLD + [_NUMBER],
     "vof_record": _READ + [_SIZE] + _TOLD + [_BYTES, _SIZE],
     "vof_value": _READ + _TOLD,
     "vof_current": _READ * 3 + _TOLD + [_BYTES, _SIZE],
@@ -169,12 +173,20 @@ _FUNCTIONS = {
 }
 
 
+# The version of include/vof.h that this module is written for.
+_VERSION = 2
+
+
 def _load():
     root = os.path.dirname(os.path.dirname(os.path.realpath(__file__)))
     path = os.environ.get("VOF_LIBRARY") or os.path.join(root, "dist", "libvof.so")
     if not os.path.exists(path):
         raise ImportError("vof: there is no %s; bin/build-library makes dist/libvof.so" % path)
     library = ctypes.CDLL(os.path.abspath(path))
+    # The first version had no number.
+    version = library.vof_version() if hasattr(library, "vof_version") else 1
+    if version != _VERSION:
+        raise ImportError("vof: %s has version %d, and %d is wanted" % (path, version, _VERSION))
     for name, parameters in _FUNCTIONS.items():
         function = getattr(library, name)
         function.argtypes, function.restype = parameters, ctypes.c_uint64
@@ -283,8 +295,17 @@ def _rows(width, pack, placed, function, *given):
 
 def scan(pack):
     """Checks a pack, and gives a list with an Entry for each record. Refusals 1 to 8."""
-    rows = _rows(3, pack, _OF_PACK, _library.vof_scan)
-    return [Entry(start, _tag(tag), length) for start, tag, length in rows]
+    rows = _rows(4, pack, _OF_PACK, _library.vof_scan)
+    return [Entry(start, _tag(tag), length, hash) for start, tag, length, hash in rows]
+
+
+def find_hash(entries, hash):
+    """The index in a list that scan gave of the first Entry whose value has this hash, or None."""
+    told = _numbers(4 * len(entries))
+    told[3::4] = [entry.value_hash for entry in entries]
+    # A number that 64 bits do not hold is no hash, and C would cut it.
+    word = _word(_library.vof_find_hash(told, len(told), hash)) if 0 <= hash < 2**64 else 0
+    return word - 1 if word else None
 
 
 def record(pack, at):

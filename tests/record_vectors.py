@@ -126,7 +126,7 @@ def told_walk(s):
     while place < len(pack):
         tag, value = read_tlv(pack, place)
         if n == 0:
-            return "@ %d t %d l %d" % (place, int.from_bytes(tag, "big"), len(value))
+            return "@ %d t %d %s" % (place, int.from_bytes(tag, "big"), hashed("l", value))
         n, place = n - 1, place + 32 + len(value)
     return "end"
 
@@ -1469,7 +1469,8 @@ def walks():
     """The records, then the end or the fault, and that again; B is document 01's."""
     b = record(b"C!", b"data data data")
     empty = record(b"vd", b"")
-    first = "@ 0 t 17185 l 14"
+    hash, none = " e33db5f49f8ecb36", " ef46db3751d8e999"
+    first = "@ 0 t 17185 l 14" + hash
     assert int.from_bytes(b"C!", "big") == 17185 and int.from_bytes(b"vd", "big") == 30308
     walk("A", b"", "end")
     walk("B", b, first, "end")
@@ -1479,8 +1480,10 @@ def walks():
     for name, i, byte, number in DAMAGE:
         damaged = b[:i] + bytes([byte]) + b[i + 1 :]
         walk(name, damaged, "%d at 0" % number)
-        walk(name + " in second place", empty + damaged, "@ 0 t 30308 l 0", "%d at 32" % number)
-    walk("three records", b + empty + b, first, "@ 46 t 30308 l 0", "@ 78 t 17185 l 14", "end")
+        second = empty + damaged
+        walk(name + " in second place", second, "@ 0 t 30308 l 0" + none, "%d at 32" % number)
+    others = "@ 46 t 30308 l 0" + none, "@ 78 t 17185 l 14" + hash
+    walk("three records", b + empty + b, first, *others, "end")
     walk("a fault in the middle", b + damaged + b, first, "8 at 46")
     walk("length of 2^64-1", b + header(b"vr", 2**64 - 1, 0), first, "7 at 46")
 

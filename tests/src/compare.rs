@@ -66,6 +66,7 @@ fn shown(bytes: &[u8]) -> String {
 #[derive(Clone, Copy, Debug)]
 pub enum Function {
     Scan,
+    FindHash,
     Value,
     Record,
     Current,
@@ -80,8 +81,9 @@ pub enum Function {
 }
 
 /// The numbers that each function can answer, 0 where it does not refuse.
-const NUMBERS: [(Function, &[usize]); 12] = [
+const NUMBERS: [(Function, &[usize]); 13] = [
     (Function::Scan, &[0, 1, 2, 3, 4, 5, 6, 7, 8, 19]),
+    (Function::FindHash, &[0, 20]),
     (Function::Value, &[0, 9, 10, 11, 12, 19, 22]),
     (
         Function::Record,
@@ -212,10 +214,43 @@ impl Compare {
         let rooms = [exact, exact.saturating_sub(1), 0, exact + 1, exact + 7].map(|n| (n, 0));
         let call = |words: &mut [u64], _: &mut [u8]| raw::scan(pack, words);
         self.lent(Function::Scan, &[pack], &wanted, &rooms, call);
-        let mut entries = vec![vof::Entry::default(); exact / 3];
+        let mut entries = vec![vof::Entry::default(); exact / 4];
         let safe = vof::scan(pack, &mut entries);
         let same = safe == plain.map(|entries| entries.len());
         self.hold("the safe scan", &[pack], same);
+        let hashes: Vec<u64> = entries.iter().map(|entry| entry.hash).collect();
+        for hash in [
+            hashes.first(),
+            hashes.last(),
+            hashes.get(exact / 8),
+            Some(&0),
+        ] {
+            let Some(&hash) = hash else { continue };
+            self.find_hash(&wanted.words, hash);
+            let found = vof::find_hash(&entries, hash);
+            let first = hashes.iter().position(|&each| each == hash);
+            self.hold("the safe search", &[pack], found == Ok(first));
+        }
+    }
+
+    /// Words as a scan tells them, also with a rest that is no entry.
+    pub fn find_hash(&mut self, told: &[u64], hash: u64) {
+        for rest in 0..4 {
+            let told = [told, &vec![hash; rest]].concat();
+            let place = told.chunks_exact(4).position(|entry| entry[3] == hash);
+            let wanted = 256 * place.map_or(0, |place| 1 + place as u64);
+            let answer = raw::find_hash(&told, hash);
+            self.called(Function::FindHash, answer);
+            let same = answer == wanted;
+            self.hold("a search by hash", &[&hash.to_be_bytes()], same);
+        }
+    }
+
+    /// More words than are searched.
+    pub fn find_hash_refused(&mut self, told: &[u64]) {
+        let answer = raw::find_hash(told, 0);
+        self.called(Function::FindHash, answer);
+        self.hold("a search in too many words", &[], answer == 20);
     }
 
     pub fn value(&mut self, value: &[u8]) {
@@ -448,8 +483,9 @@ fn number(tag: [u8; 2]) -> u64 {
     u64::from(u16::from_be_bytes(tag))
 }
 
-fn entry_words(&(start, tag, value): &(usize, [u8; 2], &[u8])) -> [u64; 3] {
-    [start as u64, number(tag), value.len() as u64]
+fn entry_words(&(start, tag, value): &(usize, [u8; 2], &[u8])) -> [u64; 4] {
+    let hash = crate::plain::xxh64::xxh64(value);
+    [start as u64, number(tag), value.len() as u64, hash]
 }
 
 /// The nine numbers of a value's parts; `base`: where the value starts.

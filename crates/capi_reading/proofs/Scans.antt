@@ -38,7 +38,7 @@ counted-whole r n e = by (r .entries) (r .ending) e
 module _ (s told : List ℕ) (c : Checked) (checked : outcomeOf c ≡ outcome (reading packLimit s)) where
   -- what the scan answers, and what it leaves
   abbrev Scans : ℕ → List ℕ → Type 0
-  Scans r left = (r ≡ outcomeAnswer (scanned (reading packLimit s) (length told / 3))) × (left ≡ scanTold (reading packLimit s) told)
+  Scans r left = (r ≡ outcomeAnswer (scanned (reading packLimit s) (length told / 4))) × (left ≡ scanTold (reading packLimit s) told)
 
   pub scan-refused : (n place : ℕ) → outcomeOf c ≡ refused n place → n < 256 → Scans (answer n place % 2 ^ 64) told
   scan-refused n place is small =
@@ -50,14 +50,14 @@ module _ (s told : List ℕ) (c : Checked) (checked : outcomeOf c ≡ outcome (r
     counts : (reading packLimit s .ending ≡ whole) × (n ≡ length (reading packLimit s .entries))
     counts = counted-whole (reading packLimit s) n (sym (ap outcomeOf is) ∙ checked)
 
-    pub scan-short : length told / 3 < n → Scans (answer 19 0) told
-    scan-short h = rw (counts .0, ← counts .1, lt-leb n (length told / 3) h) (refl, refl)
+    pub scan-short : length told / 4 < n → Scans (answer 19 0) told
+    scan-short h = rw (counts .0, ← counts .1, lt-leb n (length told / 4) h) (refl, refl)
 
     entries-are : firstEntries n s 0 ≡ reading packLimit s .entries
     entries-are =
         rw (counts .1) (first-entries (reading packLimit s .entries) s 0 (ap (λ (r : Reading). r .entries) (sym (accepted-reading packLimit s (counts .0)))))
 
-    pub scan-filled : n ≤ length told / 3 → Scans (answer 0 n % 2 ^ 64) (overwritten told 0 (entryWords (firstEntries n s 0)))
+    pub scan-filled : n ≤ length told / 4 → Scans (answer 0 n % 2 ^ 64) (overwritten told 0 (entryWords (firstEntries n s 0)))
     scan-filled h =
         let within : n ≤ packLimit = omega (arith, counts .1, reading-bounded packLimit s .count) in
-        rw (answer-whole 0 n (omega arith) (omega arith), counts .0, ← counts .1, le-leb n (length told / 3) h, entries-are) (refl, refl)
+        rw (answer-whole 0 n (omega arith) (omega arith), counts .0, ← counts .1, le-leb n (length told / 4) h, entries-are) (refl, refl)

@@ -1,4 +1,5 @@
 pub mod Values
 pub mod Record
 pub mod Scan
+pub mod Search
 pub mod PackLists

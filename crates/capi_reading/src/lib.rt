@@ -1,4 +1,4 @@
-// For C, Rust and Python: a hash, a pack scanned, one record read, a value taken apart.
+// For C, Rust and Python: the library's version, a hash, a pack scanned, one record read, a value taken apart.
 mod pack_lists;
 mod record;
 mod scan;
@@ -6,6 +6,14 @@ mod values;
 
 ghost use mathlib.Core.Path.{_≡_};
 ghost use Rattle.xxh64.specs.Xxh64.{xxh64};
+
+// VOF_VERSION of include/vof.h. It grows with each change that a caller built before would misread.
+#[no_mangle]
+pub extern "C" fn vof_version() -> u64
+    ensures { λ r. ⌜ r ≡ 2 ⌝ }
+{
+    2
+}
 
 // The XXH64 of the bytes, seed 0.
 #[no_mangle]

@@ -58,7 +58,7 @@ sample =
 
 -- its one record, and how the reading ends
 abbrev sampleThen : pack.Ending → pack.Reading
-sampleThen ending = record { entries = record { start = 0; tag = 0x4321; length = 14 } ∷ []; ending = ending }
+sampleThen ending = record { entries = record { start = 0; tag = 0x4321; length = 14; hash = 0xE33DB5F49F8ECB36 } ∷ []; ending = ending }
 
 abbrev packCase : List ℕ → pack.Reading → Case
 packCase s r = record { bytes = s; asked = as-pack; answered = of-pack r }

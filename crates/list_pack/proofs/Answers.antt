@@ -100,13 +100,13 @@ module _ (r : Reading) (n : ℕ) (f : Filled r n) where
   text-is : lines (take n (listAfter r noEntries)) ++ countLine n ≡ text r
   text-is = rw (taken, f .accepted, f .count)
 
-  pub listing-put : {s0 s1 s2 : List ℕ} {at next : ℕ} → 98304 ≤ length s0 → at ≤ 96256 → Put s0 0 (lines (take n (listAfter r noEntries))) s1 at → Put s1 at (countLine n) s2 next → Put s0 0 (text r) s2 next × (next ≤ 98304)
+  pub listing-put : {s0 s1 s2 : List ℕ} {at next : ℕ} → 133120 ≤ length s0 → at ≤ 131072 → Put s0 0 (lines (take n (listAfter r noEntries))) s1 at → Put s1 at (countLine n) s2 next → Put s0 0 (text r) s2 next × (next ≤ 133120)
   listing-put {s0} {s1} {s2} {at} {next} room l p q =
       let c = count-length n in
       (subst (λ (t : List ℕ). Put s0 0 t s2 next) text-is (put-then (omega (arith, p .place)) p q), omega (arith, q .place))
 
-pub refusal-put : (r : Reading) (n p : ℕ) {s0 s2 : List ℕ} {next : ℕ} → 98304 ≤ length s0 → r .ending ≡ refused n p → PutWithRoom 53 s0 0 (refusalLine n p) s2 next
-    → Put s0 0 (text r) s2 next × (next ≤ 98304)
+pub refusal-put : (r : Reading) (n p : ℕ) {s0 s2 : List ℕ} {next : ℕ} → 133120 ≤ length s0 → r .ending ≡ refused n p → PutWithRoom 53 s0 0 (refusalLine n p) s2 next
+    → Put s0 0 (text r) s2 next × (next ≤ 133120)
 refusal-put r n p {s0} {s2} {next} room e q =
     let t : refusalLine n p ≡ text r = rw e in
     let put = q .fits (omega arith) in

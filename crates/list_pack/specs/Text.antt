@@ -11,7 +11,7 @@ use Rattle.pack.specs.Reading.{Reading, Ending, whole, refused}
 use Rattle.io.specs.Digits.{digits}
 use Rattle.console.specs.Text.{decimal, space, newline, refusalLine, decimal-length}
 
--- a number in so many small hex digits: a tag has 4
+-- a number in so many small hex digits: a tag has 4, a hash 16
 abbrev pub hex : ℕ → ℕ → List ℕ
 hex width n = digits 16 width n
 
@@ -19,9 +19,12 @@ hex width n = digits 16 width n
 abbrev pub recordsWord : List ℕ
 recordsWord = 0x72 ∷ 0x65 ∷ 0x63 ∷ 0x6F ∷ 0x72 ∷ 0x64 ∷ 0x73 ∷ 0x20 ∷ []
 
--- one line a record: start, tag, value length
+-- one line a record: start, tag and value length, and the value's hash
+unfoldable pub front : Entry → List ℕ
+front e = decimal (e .start) ++ space ++ hex 4 (e .tag) ++ space ++ decimal (e .length) ++ space
+
 unfoldable pub line : Entry → List ℕ
-line e = decimal (e .start) ++ space ++ hex 4 (e .tag) ++ space ++ decimal (e .length) ++ newline
+line e = front e ++ hex 16 (e .hash) ++ newline
 
 unfoldable pub lines : List Entry → List ℕ
 lines [] = []
@@ -44,9 +47,13 @@ pub hex-length : (width n : ℕ) → length (hex width n) ≡ width
 hex-length zero n = refl
 hex-length (suc width) n = rw (length-append, hex-length width (n / 16)) (omega arith)
 
-pub line-length : (e : Entry) → length (line e) ≤ 47
+pub front-length : (e : Entry) → length (front e) ≤ 47
+unfolding front
+front-length e = simp length-append (omega (arith, decimal-length (e .start), decimal-length (e .length)))
+
+pub line-length : (e : Entry) → length (line e) ≤ 64
 unfolding line
-line-length e = simp length-append (omega (arith, decimal-length (e .start), decimal-length (e .length)))
+line-length e = simp length-append (omega (arith, front-length e))
 
 pub count-length : (n : ℕ) → length (countLine n) ≤ 29
 unfolding countLine

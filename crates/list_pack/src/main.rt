@@ -6,7 +6,7 @@ ghost use Rattle.refusals.specs.Limit.{packLimit};
 ghost use Rattle.pack.specs.Reading.{reading};
 ghost use Rattle.pack.specs.Scan.{scannedOf, scanned, listAfter};
 ghost use Rattle.console.specs.Put.{Put};
-ghost use Rattle.list_pack.specs.Text.{hex, line, lines, countLine, text};
+ghost use Rattle.list_pack.specs.Text.{hex, front, line, lines, countLine, text};
 ghost use Rattle.list_pack.specs.Listing.{noEntries};
 use console::Input;
 use console::put;
@@ -28,17 +28,27 @@ fn put_hex(out: &mut [u8], at: usize, n: u64, width: usize) -> usize
     put(out, at, &digits[..k])
 }
 
-// A line has at most 47 bytes.
-fn put_line(out: &mut [u8], at: usize, e: Entry) -> usize
+// Start, tag and length, a space behind each: at most 47 bytes.
+fn put_front(out: &mut [u8], at: usize, e: Entry) -> usize
     requires { ⌜ at + 47 ≤ length (now out) ⌝ }
-    ensures { λ r. ⌜ Put (now (out .entry)) at (line e) (now (out .exit)) r ⌝ }
+    ensures { λ r. ⌜ Put (now (out .entry)) at (front e) (now (out .exit)) r ⌝ }
 {
     let start = put_decimal(out, at, e.start as u64);
     let before = put(out, start, b" ");
     let tag = put_hex(out, before, e.tag as u64, 4);
     let after = put(out, tag, b" ");
     let length = put_decimal(out, after, e.length);
-    put(out, length, b"\n")
+    put(out, length, b" ")
+}
+
+// A line has at most 64 bytes.
+fn put_line(out: &mut [u8], at: usize, e: Entry) -> usize
+    requires { ⌜ at + 64 ≤ length (now out) ⌝ }
+    ensures { λ r. ⌜ Put (now (out .entry)) at (line e) (now (out .exit)) r ⌝ }
+{
+    let front = put_front(out, at, e);
+    let hash = put_hex(out, front, e.hash, 16);
+    put(out, hash, b"\n")
 }
 
 fn put_count(out: &mut [u8], at: usize, n: usize) -> usize
@@ -65,6 +75,7 @@ fn no_entries() -> [Entry; 2048]
         start: 0,
         tag: 0,
         length: 0,
+        hash: 0,
     }; 2048]
 }
 
@@ -79,8 +90,8 @@ fn scan_all(pack: &[u8]) -> Listing
 
 // A line an entry, for the first n of them.
 fn put_lines(out: &mut [u8], entries: [Entry; 2048], n: usize) -> usize
-    requires { ⌜ ((n ≤ 2048) × (n ≤ length entries)) × (96256 ≤ length (now out)) ⌝ }
-    ensures { λ r. ⌜ Put (now (out .entry)) 0 (lines (take n entries)) (now (out .exit)) r × (r ≤ 96256) ⌝ }
+    requires { ⌜ ((n ≤ 2048) × (n ≤ length entries)) × (131072 ≤ length (now out)) ⌝ }
+    ensures { λ r. ⌜ Put (now (out .entry)) 0 (lines (take n entries)) (now (out .exit)) r × (r ≤ 131072) ⌝ }
 {
     let mut at = 0;
     let mut i = 0;
@@ -95,8 +106,8 @@ fn put_lines(out: &mut [u8], entries: [Entry; 2048], n: usize) -> usize
 // The whole text. A pack of this length has at most 2,048 records, so that the list is never too
 // short.
 fn put_listing(out: &mut [u8], pack: &[u8]) -> usize
-    requires { ⌜ (length (now pack) ≤ 65536) × (98304 ≤ length (now out)) ⌝ }
-    ensures { λ r. ⌜ Put (now (out .entry)) 0 (text (reading packLimit (now (pack .entry)))) (now (out .exit)) r × (r ≤ 98304) ⌝ }
+    requires { ⌜ (length (now pack) ≤ 65536) × (133120 ≤ length (now out)) ⌝ }
+    ensures { λ r. ⌜ Put (now (out .entry)) 0 (text (reading packLimit (now (pack .entry)))) (now (out .exit)) r × (r ≤ 133120) ⌝ }
 {
     let listing = scan_all(pack);
     let scanned = listing.scanned;
@@ -117,7 +128,7 @@ fn put_listing(out: &mut [u8], pack: &[u8]) -> usize
 fn show(pack: &[u8])
     requires { ⌜ length (now pack) ≤ 65536 ⌝ }
 {
-    let mut out = [0u8; 98304];
+    let mut out = [0u8; 133120];
     let n = put_listing(&mut out, pack);
     io::write_all(STDOUT_FILENO, &out[..n]);
 }

@@ -12,6 +12,7 @@ use lib.Dec.{ltb}
 use lib.ListN.{length, take, drop, length-append, length-drop, length-take, take-append-drop}
 use lib.Seq.{take-at, drop-at, length-take-le}
 use Rattle.slices.specs.Bytes.{AllBytes, drop-bytes}
+use Rattle.xxh64.specs.Xxh64.{xxh64}
 use Rattle.tlv.specs.Layout.{Record, Fits, layout, layouts, length-layout}
 use Rattle.tlv.specs.Found.{Found, end, found, fault, step, made, step-none, step-end}
 use Rattle.tlv.specs.Stands.{Stands, recordOf, step-stands, stands-fits, stands-layout, stands-made, layout-step, record-of-layout}
@@ -25,7 +26,7 @@ AllFit (r ∷ rs) = Fits r × AllFit rs
 
 -- the entries of records that stand end to end from a place on
 abbrev pub entryOf : ℕ → Record → Entry
-entryOf at r = record { start = at; tag = r .tag; length = length (r .value) }
+entryOf at r = record { start = at; tag = r .tag; length = length (r .value); hash = xxh64 (r .value) }
 
 unfoldable pub entriesOf : ℕ → List Record → List Entry
 entriesOf at [] = []

@@ -30,7 +30,7 @@ cons e r = record { entries = e ∷ r .entries; ending = r .ending }
 -- what is found at a place, and then `rest`, told how many bytes to pass over after the first
 abbrev pub next : Found → ℕ → (ℕ → Reading) → Reading
 next end at rest = record { entries = []; ending = whole }
-next (found h) at rest = cons (record { start = at; tag = h .tag; length = h .length }) (rest (31 + h .length))
+next (found h) at rest = cons (record { start = at; tag = h .tag; length = h .length; hash = h .hash }) (rest (31 + h .length))
 next (fault n) at rest = record { entries = []; ending = refused n at }
 
 -- ---- the records of the bytes s, which begin at `at` of the pack. The recursion that is meant is `records-next`: what stands at the
@@ -89,7 +89,7 @@ pub records-fault : (at : ℕ) (s : List ℕ) (n : ℕ) → step s ≡ fault n �
 records-fault at s n e = rw (records-next, e)
 
 abbrev pub entryAt : ℕ → RecordHeader → Entry
-entryAt at h = record { start = at; tag = h .tag; length = h .length }
+entryAt at h = record { start = at; tag = h .tag; length = h .length; hash = h .hash }
 
 pub records-found : (at : ℕ) (s : List ℕ) (h : RecordHeader) → step s ≡ found h
     → records at 0 s ≡ cons (entryAt at h) (records (at + (32 + h .length)) 0 (drop (32 + h .length) s))
@@ -107,7 +107,7 @@ records-on at s h e =
 -- ---- places are counted from where the reading begins
 
 abbrev pub shiftEntry : ℕ → Entry → Entry
-shiftEntry k e = record { start = e .start + k; tag = e .tag; length = e .length }
+shiftEntry k e = record { start = e .start + k; tag = e .tag; length = e .length; hash = e .hash }
 
 abbrev pub shiftEnding : ℕ → Ending → Ending
 shiftEnding k whole = whole

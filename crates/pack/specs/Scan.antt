@@ -18,7 +18,7 @@ use Rattle.pack.specs.Reading.{Reading, Ending, whole, refused, records,
 
 -- stands for an entry where there is none
 abbrev pub noEntry : Entry
-noEntry = record { start = 0; tag = 0; length = 0 }
+noEntry = record { start = 0; tag = 0; length = 0; hash = 0 }
 
 -- what each answer of the code says
 abbrev pub scannedOf : Scanned → Outcome

@@ -6,16 +6,18 @@ ghost use lib.ListN.{length, drop};
 ghost use Rattle.refusals.specs.Limit.{packLimit};
 ghost use Rattle.pack.specs.Reading.{reading, outcome, outcomeOf};
 ghost use Rattle.pack.specs.Scan.{scannedOf, fitted, scanned, written, listedAt, firstEntries, listAfter};
+ghost use Rattle.pack.specs.Search.{matchOf, firstWith};
 ghost use Rattle.pack.specs.Walk.{yieldOf, callOf, turnAt, nthYield};
 use tlv::Fault;
 use tlv::RecordHeader;
 use tlv::Step;
 
-// A record of a pack: where it starts, its tag, and its value's length.
+// A record of a pack: where it starts, its tag, and its value's length and hash.
 pub struct Entry {
     pub start: usize,
     pub tag: u16,
     pub length: u64,
+    pub hash: u64,
 }
 
 // How many records a pack has, or the refusal.
@@ -100,6 +102,7 @@ fn listed_at(pack: &[u8], at: usize) -> Listed
             start: at,
             tag: header.tag,
             length: header.length,
+            hash: header.hash,
         },
         next: passed.next,
     }
@@ -129,6 +132,29 @@ pub fn scan(pack: &[u8], list: &mut [Entry]) -> Scanned
     let n = to_write(r);
     fill(pack, list, n);
     r
+}
+
+// ---- the search by a value's hash
+
+// The place in a list of the first entry that is looked for, counted from 0, or that there is none.
+pub enum Match {
+    At(usize),
+    Nothing,
+}
+
+// The first entry of a list whose value has this hash.
+pub fn find_hash(entries: &[Entry], hash: u64) -> Match
+    ensures { λ r. ⌜ matchOf r ≡ firstWith hash (now (entries .entry)) ⌝ }
+{
+    let n = entries.len();
+    let mut i = 0;
+    while i < n {
+        if entries[i].hash == hash {
+            return Match::At(i);
+        }
+        i += 1;
+    }
+    Match::Nothing
 }
 
 // ---- the walker, which yields one record a call
@@ -175,6 +201,7 @@ fn turn_at(pack: &[u8], at: usize) -> Turn
                 start: at,
                 tag: h.tag,
                 length: h.length,
+                hash: h.hash,
             }),
             at: at + RecordHeader::LENGTH + h.length as usize,
         },

@@ -118,7 +118,7 @@ pub(crate) fn walked(pack: &[u8], n: usize) {
         Walked::Record(e) => {
             say_number(b'@', e.start);
             say_number(b't', e.tag as usize);
-            say_number(b'l', e.length as usize);
+            show::say_hash(b'l', e.length as usize, e.hash);
         }
         Walked::End => show::say(b" end"),
         Walked::TooLong => say_refusal_at(1, 0),

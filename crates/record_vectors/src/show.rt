@@ -28,11 +28,16 @@ pub(crate) fn say_refusal(number: u8) {
     io::print_decimal(STDOUT_FILENO, number as u64);
 }
 
+// A length and a hash.
+pub(crate) fn say_hash(letter: u8, length: usize, hash: u64) {
+    say_number(letter, length);
+    say(b" ");
+    io::print_hex(STDOUT_FILENO, hash, 16);
+}
+
 // Bytes, by their length and their hash.
 pub(crate) fn say_hashed(letter: u8, s: &[u8]) {
-    say_number(letter, s.len());
-    say(b" ");
-    io::print_hex(STDOUT_FILENO, xxh64::xxh64(s), 16);
+    say_hash(letter, s.len(), xxh64::xxh64(s));
 }
 
 fn say_text(letter: u8, text: &[u8]) {

@@ -27,7 +27,7 @@ use Rattle.writer_laws.specs.Added.{Extends, Tells, IsAdded}
 -- ---- what was written
 
 module _ (limit : ℕ) (s : List ℕ) (item : Item) (e : Entry) where
-  pub tags-differ : (tag : ℕ) → (tag ≡ tagOf item → ⊥) → Means limit s item (record { start = e .start; tag = tag; length = e .length }) → ⊥
+  pub tags-differ : (tag : ℕ) → (tag ≡ tagOf item → ⊥) → Means limit s item (record { start = e .start; tag = tag; length = e .length; hash = e .hash }) → ⊥
   tags-differ tag d x = d (x .tag)
 
   -- the record r with this value stands there

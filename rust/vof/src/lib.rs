@@ -5,7 +5,8 @@
 //! lent memory as it was, and what lies behind a result keeps its content.
 //!
 //! The build links the archive that the environment variable VOF_LIBRARY names by its absolute path, else
-//! this repository's target/staticlib/libvof.a, which `bin/archive` writes.
+//! this repository's target/staticlib/libvof.a, which `bin/archive` writes. It refuses an archive that has
+//! another version than include/vof.h had when this crate was written.
 //!
 //! ```
 //! let mut buffer = [0; 256];
@@ -16,6 +17,7 @@
 //! let mut entries = [vof::Entry::default(); 8];
 //! assert_eq!(vof::scan(pack, &mut entries)?, 1);
 //! assert_eq!(entries[0].tag, vof::BLOCK);
+//! assert_eq!(vof::find_hash(&entries[..1], entries[0].hash)?, Some(0));
 //!
 //! let mut identifier = [0; vof::IDENTIFIER_LIMIT];
 //! let record = vof::record(pack, entries[0].start as usize, &mut identifier)?;
@@ -93,6 +95,13 @@ pub struct Entry {
     pub tag: u64,
     /// The length of its value; the record is [`HEADER`] bytes longer.
     pub length: u64,
+    /// The XXH64 of its value.
+    pub hash: u64,
+}
+
+impl Entry {
+    /// How many numbers it is.
+    const NUMBERS: usize = 4;
 }
 
 /// Part of a value.
@@ -216,10 +225,21 @@ pub fn xxh64(bytes: &[u8]) -> u64 {
 /// Refused with 1 to 8 and a place, or with 19 where `entries` is too short. A pack has at most one
 /// record for each [`HEADER`] of its bytes.
 pub fn scan(pack: &[u8], entries: &mut [Entry]) -> Result<usize, Refusal> {
-    // SAFETY: an entry is three numbers, laid out as in C, and any numbers are an entry.
-    let told =
-        unsafe { std::slice::from_raw_parts_mut(entries.as_mut_ptr().cast(), 3 * entries.len()) };
+    let length = Entry::NUMBERS * entries.len();
+    // SAFETY: an entry is so many numbers, laid out as in C, and any numbers are an entry.
+    let told = unsafe { std::slice::from_raw_parts_mut(entries.as_mut_ptr().cast(), length) };
     word(raw::scan(pack, told), of_pack).map(|count| count as usize)
+}
+
+/// The index of the first entry whose value has this hash, `None` where none has it.
+///
+/// Refused with 20 where there are more than 2^32 entries.
+pub fn find_hash(entries: &[Entry], hash: u64) -> Result<Option<usize>, Refusal> {
+    let length = Entry::NUMBERS * entries.len();
+    // SAFETY: as in `scan`.
+    let told = unsafe { std::slice::from_raw_parts(entries.as_ptr().cast(), length) };
+    let found = word(raw::find_hash(told, hash), |_| false)?;
+    Ok(found.checked_sub(1).map(|place| place as usize))
 }
 
 /// The record at a place of a pack; `identifier` gets its composite text.

@@ -5,8 +5,10 @@
 //! as it was. The functions of the crate's root are easier to use.
 
 extern "C" {
+    fn vof_version() -> u64;
     fn vof_xxh64(bytes: *const u8, length: usize) -> u64;
     fn vof_scan(pack: *const u8, length: usize, told: *mut u64, told_length: usize) -> u64;
+    fn vof_find_hash(told: *const u64, told_length: usize, hash: u64) -> u64;
     fn vof_record(
         pack: *const u8,
         length: usize,
@@ -91,14 +93,25 @@ extern "C" {
 // SAFETY, of every call below: each pointer and length are those of a slice that outlives the call;
 // the functions keep no pointer, write only through the mutable ones, and take every content.
 
+/// The archive's version; the whole answer is the number.
+pub fn version() -> u64 {
+    unsafe { vof_version() }
+}
+
 /// The XXH64 of the bytes, seed 0; the whole answer is the hash.
 pub fn xxh64(bytes: &[u8]) -> u64 {
     unsafe { vof_xxh64(bytes.as_ptr(), bytes.len()) }
 }
 
-/// Word: the place of refusals 1 to 8, else how many records. Told of each: start, tag, value length.
+/// Word: the place of refusals 1 to 8, else how many records. Told of each: start, tag, value length,
+/// value hash.
 pub fn scan(pack: &[u8], told: &mut [u64]) -> u64 {
     unsafe { vof_scan(pack.as_ptr(), pack.len(), told.as_mut_ptr(), told.len()) }
+}
+
+/// Word: 1 plus the place among records so told, from 0, of the first with this hash; 0 where none has it.
+pub fn find_hash(told: &[u64], hash: u64) -> u64 {
+    unsafe { vof_find_hash(told.as_ptr(), told.len(), hash) }
 }
 
 /// Word: the place of refusals 1 to 8. Told are 16 numbers: tag; the value's start and length; the

@@ -66,6 +66,16 @@ pub fn longer_than_the_limit(compare: &mut Compare, _: &mut Random) {
     too_long(compare, buffer);
     buffer[..4096].fill(0);
     longest_pack(compare, &mut bytes[..PACK_LIMIT]);
+    many_words(compare);
+}
+
+/// 2^34 words and one: a search in them is refused before any is read.
+fn many_words(compare: &mut Compare) {
+    let mapped = Mapped::new(8 * ((1 << 34) + 1));
+    // SAFETY: the mapping has so many words, all zeros, and lasts as long as `mapped`.
+    let told = unsafe { std::slice::from_raw_parts(mapped.address.cast(), (1 << 34) + 1) };
+    compare.inputs += 1;
+    compare.find_hash_refused(told);
 }
 
 fn too_long(compare: &mut Compare, pack: &[u8]) {

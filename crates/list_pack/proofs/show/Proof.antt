@@ -15,7 +15,7 @@ put-listing-requires : tie.Need-put-listing-requires
 put-listing-requires c κs = search needs
 
 inside : (c : tie.After-put-listing) → c .put-listing .result ≤ length (c .put-listing .last .0)
-inside c = omega (arith, c .put-listing .ensures .1, c .put-listing .kept .0, length-replicate {A = ℕ} 98304 0)
+inside c = omega (arith, c .put-listing .ensures .1, c .put-listing .kept .0, length-replicate {A = ℕ} 133120 0)
 
 array-share-prefix-out : tie.Need-array-share-prefix-out
 array-share-prefix-out c = inside (c .before)

@@ -199,7 +199,7 @@ module _ {M : Type 1} (𝓤 : URA M) (H : Heap 𝓤) (A : Atoms 𝓤) (W : Given
     more i e =
         let less : i .0 < n = ltb-true (i .0) n e in
         let within : i .0 < length (ys (i .0)) = subst (λ (m : ℕ). i .0 < m) (sym (same (i .0))) (omega arith) in
-        let offset-fits : i .0 * 24 < 2 ^ 64 = omega (arith, room .1) in
+        let offset-fits : i .0 * 32 < 2 ^ 64 = omega (arith, room .1) in
         let one-fits : i .0 + 1 < 2 ^ 64 = omega arith in
         assigns ! (bin ! (load ! (from ! (stop !)) (look ! 16 refl)) (load ! (from ! (stop !)) (look ! 18 refl)) tt) (from ! (stop !)) (init ! 10 refl (tt, tt)) $
         rewrite ! 10 (λ (t : Bool). ‵ (fat fullShare tyBool l₇ 0 (vbool t))) e refl $
@@ -219,7 +219,7 @@ module _ {M : Type 1} (𝓤 : URA M) (H : Heap 𝓤) (A : Atoms 𝓤) (W : Given
         peeks ! R (Is R) (shows 𝓤 H A R) (r .entry) (entry-val r ∷ []) (λ is-entry. rewrite ! 0 (λ (d : Entry). ‵ (R .own d (entry-val r ∷ []))) (ap (λ (d : Listed). d .entry) is-at) refl $
         assigns ! (bin ! (load ! (from ! (stop !)) (look ! 17 refl)) (lit ! tt) (record { fits = offset-fits })) (from ! (stop !)) (init ! 9 refl (tt, record { fits = offset-fits })) $
         assigns ! (bin ! (load ! (from ! (fld ! refl (stop !))) (look-in ! 21 (sub ! 0 refl (whole !)))) (load ! (from ! (stop !)) (look ! 9 refl)) tt) (from ! (stop !)) (init ! 7 refl (tt, tt)) $
-        rewrite ! 7 (λ (p : ℕ). ‵ (fat fullShare tyPtr l₉ 0 (vptr b p))) (sym (place-is 24 o (i .0))) refl $
+        rewrite ! 7 (λ (p : ℕ). ‵ (fat fullShare tyPtr l₉ 0 (vptr b p))) (sym (place-is 32 o (i .0))) refl $
         move ! (3 ∷ []) $ elem-out ! R (Is R) (shows 𝓤 H A R) (LL.vals entry.the-type entry-laws.the-laws) (LL.tells entry.the-type entry-laws.the-laws) fullShare (ys (i .0)) (i .0) noEntry b o within (λ _.
         -- [list[i] 0; what it owns 1; the others 2; the entry 3; the token 4; Own 5; the open borrow; obs; auth; _9 9; …; _0 27; …]
         assigns ! (of-opd ! (load ! (from ! (fld ! refl (stop !))) (look-in ! 15 (sub ! 0 refl (whole !))))) (from ! (hop ! (look ! 9 refl) (stop !))) (store-raw ! 0 refl (LL.lawful entry.the-type entry-laws.the-laws 𝓤 H A W .typed (r .entry) _ is-entry .0)) $
