@@ -1,0 +1,2 @@
+mod PackLists
+mod ListWords

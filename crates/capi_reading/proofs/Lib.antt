@@ -1,7 +1,0 @@
-mod Entries
-mod Scans
-mod Parts
-mod Places
-mod Records
-mod PackLists
-mod ListWords

@@ -1,5 +1,0 @@
-pub mod Values
-pub mod Record
-pub mod Scan
-pub mod Search
-pub mod PackLists

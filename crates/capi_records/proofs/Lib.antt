@@ -1,0 +1,3 @@
+mod Parts
+mod Places
+mod Records
