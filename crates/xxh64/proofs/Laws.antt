@@ -11,7 +11,8 @@ use lib.Bits.{bitAnd, and-mask}
 use lib.ListN.{length, take, drop, length-drop}
 use lib.Seq.{length-take-le, take-take}
 use Rattle.endian.specs.Numbers.{little}
-use Rattle.xxh64.specs.Xxh64.{add, mul, lane, taken, round, converge, stripes}
+use Rattle.xxh64.specs.Xxh64.{add, mul, lane, taken, round, converge, stripes, xxh64}
+use Rattle.xxh64.specs.Parts.{finish, xxh64-finish}
 
 -- ---- the product of two numbers of 64 bits, by halves
 
@@ -88,3 +89,10 @@ pub stripes-more : (s : List ℕ) (n : ℕ) {a b c d : ℕ} → (n ≡ 0 → ⊥
 unfolding stripes add
 stripes-more s zero h p q r t = absurd (h refl)
 stripes-more s (suc n) h p q r t = λ i. converge (p i) (q i) (r i) (t i)
+
+-- and without one the finish is all there is
+pub short-finish : (s : List ℕ) → length s < 32 → finish 0x27D4EB2F165667C5 (length s) s ≡ xxh64 s
+unfolding stripes
+short-finish s h =
+    let none : length s / 32 ≡ 0 = omega arith in
+    rw none at (xxh64-finish s)
