@@ -3,7 +3,7 @@ ghost use mathlib.Core.Path.{_≡_};
 ghost use Prim.Native.Nat.{_+_, _*_, _≤_, _<_};
 ghost use lib.ListN.{length};
 ghost use Rattle.xxh64.specs.Xxh64.{mul, rotl, lane, taken, round, mergeAccumulator, converge, consume8, consume4, consume1, consume, avalanche, xxh64};
-ghost use Rattle.xxh64.specs.Parts.{finish};
+ghost use Rattle.xxh64.specs.Parts.{fresh, finish};
 use endian::Number;
 use std::num::wrapping_add_u64;
 
@@ -72,7 +72,7 @@ struct Accumulators {
 }
 
 fn fresh() -> Accumulators
-    ensures { λ r. ⌜ (r .acc1 ≡ 0x60EA27EEADC0B5D6) × (r .acc2 ≡ 0xC2B2AE3D27D4EB4F) × (r .acc3 ≡ 0) × (r .acc4 ≡ 0x61C8864E7A143579) ⌝ }
+    ensures { λ r. ⌜ (r .acc1 ≡ fresh .acc1) × (r .acc2 ≡ fresh .acc2) × (r .acc3 ≡ fresh .acc3) × (r .acc4 ≡ fresh .acc4) ⌝ }
 {
     Accumulators {
         acc1: 0x60EA27EEADC0B5D6, // PRIME1 + PRIME2
