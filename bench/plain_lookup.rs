@@ -22,7 +22,7 @@ pub fn lookup(pack: &[u8], bucket: &[u8], object: &[u8]) -> Result<Option<usize>
     let mut left = pack;
     while !left.is_empty() {
         let start = pack.len() - left.len();
-        let (tag, value) = tlv::take(&mut left)?;
+        let tlv::Record { tag, value, .. } = tlv::take(&mut left)?;
         let is_delete = match &tag {
             b"vr" => false,
             b"vd" => true,

@@ -1,50 +1,61 @@
-//! Timing of two functions against each other, shared by the benchmarks here.
+//! Timing of functions against each other, shared by the benchmarks here.
 
 use std::time::Instant;
 
-const ROUNDS: u32 = 15;
-// Times are in nanoseconds.
-const ROUND: f64 = 20e6;
+// Times are in nanoseconds. A round is short, so that on a machine with other work some are undisturbed.
+const ROUND: f64 = 0.5e6;
+/// For all rounds of one function.
+const ALL_ROUNDS: f64 = 300e6;
+const FEWEST_ROUNDS: usize = 15;
 /// A function that takes longer is called once: its warm-up counts.
 const LONG: f64 = 1e9;
 
 /// The best time of one call of `f` and of one call of `g`, in nanoseconds.
+#[allow(dead_code)] // Not every benchmark has two functions.
+pub fn compare(f: impl FnMut(), g: impl FnMut()) -> (f64, f64) {
+    let best = compare_all(&mut [calls(f), calls(g)]);
+    (best[0], best[1])
+}
+
+/// A function, as the time of one of so many calls of it.
+pub type Calls<'a> = Box<dyn FnMut(u64) -> f64 + 'a>;
+
+/// The closure must pass what it reads and what it gives through `std::hint::black_box`.
+pub fn calls<'a>(mut f: impl FnMut() + 'a) -> Calls<'a> {
+    Box::new(move |n| per_call(&mut f, n))
+}
+
+/// The best time of one call of each function, in nanoseconds.
 ///
-/// The rounds of the two alternate, so that a change in the machine's speed meets both. The best
-/// round counts, since other work on the machine only ever makes a round slower. The closures must
-/// pass what they read and what they give through `std::hint::black_box`.
-pub fn compare(mut f: impl FnMut(), mut g: impl FnMut()) -> (f64, f64) {
-    let (n, mut best_f) = calibrate(&mut f);
-    let (m, mut best_g) = calibrate(&mut g);
-    for round in 0..ROUNDS {
-        // Neither is always the first, in case a round leaves something behind for the next.
-        if round % 2 == 0 {
-            improve(&mut best_f, &mut f, n);
-            improve(&mut best_g, &mut g, m);
-        } else {
-            improve(&mut best_g, &mut g, m);
-            improve(&mut best_f, &mut f, n);
+/// The rounds of all alternate, so that a change in the machine's speed meets each. The best round
+/// counts, since other work on the machine only ever makes a round slower.
+pub fn compare_all(functions: &mut [Calls]) -> Vec<f64> {
+    let measured: Vec<_> = functions.iter_mut().map(calibrate).collect();
+    let mut best: Vec<_> = measured.iter().map(|&(_, took)| took).collect();
+    let longest = measured.iter().map(|&(n, took)| took * n as f64);
+    let rounds = (ALL_ROUNDS / longest.fold(ROUND, f64::max)) as usize;
+    for round in 0..rounds.max(FEWEST_ROUNDS) {
+        for i in 0..functions.len() {
+            // None is always the first, in case a round leaves something behind for the next.
+            let i = (i + round) % functions.len();
+            if best[i] < LONG {
+                best[i] = best[i].min(functions[i](measured[i].0));
+            }
         }
     }
-    (best_f, best_g)
+    best
 }
 
 /// How many calls take about one `ROUND`, and the time of one so far. This is the warm-up too.
-fn calibrate(f: &mut impl FnMut()) -> (u64, f64) {
+fn calibrate(calls: &mut Calls) -> (u64, f64) {
     let mut n = 1;
     loop {
-        let took = per_call(f, n);
+        let took = calls(n);
         // A shorter run says too little about how many calls fill a round.
         if took * n as f64 >= ROUND / 4.0 {
             return (((ROUND / took) as u64).max(1), took);
         }
         n *= 2;
-    }
-}
-
-fn improve(best: &mut f64, f: &mut impl FnMut(), n: u64) {
-    if *best < LONG {
-        *best = best.min(per_call(f, n));
     }
 }
 

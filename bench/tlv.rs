@@ -14,8 +14,16 @@ fn read64(bytes: &[u8]) -> u64 {
     u64::from_be_bytes(bytes.try_into().unwrap())
 }
 
-/// Takes the record at the front off: its tag and value, or the number of its refusal.
-pub fn take<'a>(left: &mut &'a [u8]) -> Result<([u8; 2], &'a [u8]), u32> {
+/// A record that was checked.
+pub struct Record<'a> {
+    pub tag: [u8; 2],
+    pub value: &'a [u8],
+    #[allow(dead_code)] // Not every benchmark reads it.
+    pub hash: u64,
+}
+
+/// Takes the record at the front off, or gives the number of its refusal.
+pub fn take<'a>(left: &mut &'a [u8]) -> Result<Record<'a>, u32> {
     let Some((header, after)) = left.split_first_chunk::<HEADER>() else {
         return Err(2);
     };
@@ -36,11 +44,13 @@ pub fn take<'a>(left: &mut &'a [u8]) -> Result<([u8; 2], &'a [u8]), u32> {
         return Err(7);
     }
     let (value, after) = after.split_at(length as usize);
-    if read64(&header[16..24]) != plain::xxh64(value) {
+    let hash = read64(&header[16..24]);
+    if hash != plain::xxh64(value) {
         return Err(8);
     }
     *left = after;
-    Ok(([header[25], header[26]], value))
+    let tag = [header[25], header[26]];
+    Ok(Record { tag, value, hash })
 }
 
 /// Puts a record after those of the pack.

@@ -1,4 +1,4 @@
-//! The proved XXH64 against a plain one in Rust, on the same bytes and in one run.
+//! The proved XXH64 against a plain one in Rust and xxHash's own in C, on the same bytes and in one run.
 
 use std::hint::black_box;
 use std::process::exit;
@@ -23,8 +23,30 @@ fn rust(data: &[u8]) -> u64 {
     plain::xxh64(data)
 }
 
-/// Published hashes of the first bytes that `plain::generate` gives, so that the two are not wrong
-/// alike.
+// Debian's library. bench/run says whether it is there.
+#[cfg(libxxhash)]
+fn libxxhash(data: &[u8]) -> u64 {
+    extern "C" {
+        fn XXH64(data: *const u8, len: usize, seed: u64) -> u64;
+    }
+    // SAFETY: as above.
+    unsafe { XXH64(data.as_ptr(), data.len(), 0) }
+}
+
+// The same source, bench/xxhash.c, compiled by clang.
+#[cfg(clang)]
+fn clang(data: &[u8]) -> u64 {
+    extern "C" {
+        fn xxh64_by_clang(data: *const u8, len: usize) -> u64;
+    }
+    // SAFETY: as above.
+    unsafe { xxh64_by_clang(data.as_ptr(), data.len()) }
+}
+
+/// A hash of bytes, by its name.
+type Hash = (&'static str, fn(&[u8]) -> u64);
+
+/// Published hashes of the first bytes that `plain::generate` gives, so that all are not wrong alike.
 const KNOWN: [(usize, u64); 4] = [
     (0, 0xEF46DB3751D8E999),
     (1, 0xE934A84ADB052768),
@@ -33,42 +55,76 @@ const KNOWN: [(usize, u64); 4] = [
 ];
 
 /// Figures of a function that gives a wrong hash would mean nothing.
-fn check(buffer: &[u8]) {
-    for len in (0..=300).chain([buffer.len()]) {
-        let (p, r) = (proved(&buffer[..len]), rust(&buffer[..len]));
-        if p != r {
-            eprintln!("xxh64: {len} bytes: proved gives {p:016x}, Rust {r:016x}");
+fn check((name, hash): Hash, buffer: &[u8]) {
+    for len in (0..=300).chain([65536, buffer.len()]) {
+        let (got, want) = (hash(&buffer[..len]), rust(&buffer[..len]));
+        if got != want {
+            eprintln!("xxh64: {len} bytes: {name} gives {got:016x}, Rust {want:016x}");
             exit(1);
         }
     }
     for (len, want) in KNOWN {
-        let got = rust(&buffer[..len]);
+        let got = hash(&buffer[..len]);
         if got != want {
-            eprintln!("xxh64: {len} bytes: both give {got:016x}, not {want:016x}");
+            eprintln!("xxh64: {len} bytes: {name} gives {got:016x}, not {want:016x}");
             exit(1);
         }
     }
 }
 
+const LENGTHS: [usize; 12] = [0, 1, 4, 8, 16, 31, 32, 64, 100, 1024, 65536, 16 << 20];
+
+macro_rules! timed {
+    ($hash:expr, $data:expr) => {
+        timing::calls(|| {
+            black_box($hash(black_box($data)));
+        })
+    };
+}
+
 fn main() {
-    let buffer = plain::generate(65536);
-    check(&buffer);
-    println!("XXH64, best round of each; proved/Rust under 1.00 means that proved is faster");
-    println!("  bytes   proved ns     Rust ns   proved/Rust   proved GB/s   Rust GB/s");
-    for len in [65536, 1024, 31, 1, 0] {
+    let hashes: Vec<Hash> = vec![
+        ("proved", proved),
+        ("Rust", rust),
+        #[cfg(libxxhash)]
+        ("libxxhash", libxxhash),
+        #[cfg(clang)]
+        ("by clang", clang),
+    ];
+    let buffer = plain::generate(16 << 20);
+    for hash in &hashes {
+        check(*hash, &buffer);
+    }
+    println!("XXH64 in ns, best round of each; a ratio under 1.00 means that proved is faster");
+    print!("    bytes");
+    for (name, _) in &hashes {
+        print!("{name:>13}");
+    }
+    for (name, _) in &hashes[1..] {
+        print!("{:>18}", format!("proved/{name}"));
+    }
+    println!("    proved GB/s");
+    for len in LENGTHS {
         let data = &buffer[..len];
-        let (p, r) = timing::compare(
-            || {
-                black_box(proved(black_box(data)));
-            },
-            || {
-                black_box(rust(black_box(data)));
-            },
-        );
-        print!("{len:7} {p:11.2} {r:11.2} {:13.2}", p / r);
+        // Each called by its name, not by a pointer: short values would feel the difference.
+        let best = timing::compare_all(&mut [
+            timed!(proved, data),
+            timed!(rust, data),
+            #[cfg(libxxhash)]
+            timed!(libxxhash, data),
+            #[cfg(clang)]
+            timed!(clang, data),
+        ]);
+        print!("{len:9}");
+        for took in &best {
+            print!("{took:13.2}");
+        }
+        for took in &best[1..] {
+            print!("{:18.2}", best[0] / took);
+        }
         // Bytes per nanosecond are gigabytes per second. For short inputs the rate says little.
-        if len == 65536 {
-            print!(" {:13.2} {:11.2}", len as f64 / p, len as f64 / r);
+        if len >= 1024 {
+            print!("{:15.2}", len as f64 / best[0]);
         }
         println!();
     }

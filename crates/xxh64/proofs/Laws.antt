@@ -11,7 +11,8 @@ use lib.Bits.{bitAnd, and-mask}
 use lib.ListN.{length, take, drop, length-drop}
 use lib.Seq.{length-take-le, take-take}
 use Rattle.endian.specs.Numbers.{little}
-use Rattle.xxh64.specs.Xxh64.{add, mul, lane, taken, round, converge, stripes}
+use Rattle.xxh64.specs.Xxh64.{prime5, mul, lane, taken, round, converge, stripes, xxh64}
+use Rattle.xxh64.specs.Parts.{fresh, finish, xxh64-finish}
 
 -- ---- the product of two numbers of 64 bits, by halves
 
@@ -83,8 +84,15 @@ taken-more step w stride s at acc k q e p = rw add-one (p ∙ ap₂ step q e)
 
 -- after a stripe at least, the accumulators converge
 pub stripes-more : (s : List ℕ) (n : ℕ) {a b c d : ℕ} → (n ≡ 0 → ⊥)
-    → a ≡ taken round 8 32 s 0 0x60EA27EEADC0B5D6 n → b ≡ taken round 8 32 s 8 0xC2B2AE3D27D4EB4F n → c ≡ taken round 8 32 s 16 0 n → d ≡ taken round 8 32 s 24 0x61C8864E7A143579 n
+    → a ≡ taken round 8 32 s 0 (fresh .acc1) n → b ≡ taken round 8 32 s 8 (fresh .acc2) n → c ≡ taken round 8 32 s 16 (fresh .acc3) n → d ≡ taken round 8 32 s 24 (fresh .acc4) n
     → converge a b c d ≡ stripes s n
-unfolding stripes add
+unfolding stripes fresh
 stripes-more s zero h p q r t = absurd (h refl)
 stripes-more s (suc n) h p q r t = λ i. converge (p i) (q i) (r i) (t i)
+
+-- and without one the finish is all there is
+pub short-finish : (s : List ℕ) → length s < 32 → finish prime5 (length s) s ≡ xxh64 s
+unfolding stripes
+short-finish s h =
+    let none : length s / 32 ≡ 0 = omega arith in
+    rw none at (xxh64-finish s)

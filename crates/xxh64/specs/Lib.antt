@@ -1,1 +1,2 @@
 pub mod Xxh64
+pub mod Parts

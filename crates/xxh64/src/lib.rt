@@ -2,7 +2,8 @@
 ghost use mathlib.Core.Path.{_≡_};
 ghost use Prim.Native.Nat.{_+_, _*_, _≤_, _<_};
 ghost use lib.ListN.{length};
-ghost use Rattle.xxh64.specs.Xxh64.{mul, rotl, lane, taken, round, mergeAccumulator, converge, stripes, consume8, consume4, consume1, consume, avalanche, xxh64};
+ghost use Rattle.xxh64.specs.Xxh64.{mul, rotl, lane, taken, round, mergeAccumulator, converge, consume8, consume4, consume1, consume, avalanche, xxh64};
+ghost use Rattle.xxh64.specs.Parts.{fresh, finish};
 use endian::Number;
 use std::num::wrapping_add_u64;
 
@@ -62,36 +63,68 @@ fn merge_accumulator(acc: u64, other: u64) -> u64
     wrapping_add_u64(wrapping_mul(acc ^ round(0, other), PRIME1), PRIME4)
 }
 
-fn converge(a: u64, b: u64, c: u64, d: u64) -> u64
-    ensures { λ r. ⌜ r ≡ converge a b c d ⌝ }
-{
-    let ab = wrapping_add_u64(rotl(a, 1), rotl(b, 7));
-    let sum = wrapping_add_u64(wrapping_add_u64(ab, rotl(c, 12)), rotl(d, 18));
-    let merged = merge_accumulator(merge_accumulator(sum, a), b);
-    merge_accumulator(merge_accumulator(merged, c), d)
+// The state of steps 1 to 3.
+struct Accumulators {
+    acc1: u64,
+    acc2: u64,
+    acc3: u64,
+    acc4: u64,
 }
 
-// The accumulator after n stripes of 32 bytes.
-fn stripes(s: &[u8], n: usize) -> u64
-    requires { ⌜ 32 * n ≤ length (now s) ⌝ }
-    ensures { λ r. ⌜ r ≡ stripes (now (s .entry)) n ⌝ }
+fn fresh() -> Accumulators
+    ensures { λ r. ⌜ (r .acc1 ≡ fresh .acc1) × (r .acc2 ≡ fresh .acc2) × (r .acc3 ≡ fresh .acc3) × (r .acc4 ≡ fresh .acc4) ⌝ }
 {
-    if n == 0 {
-        return PRIME5;
+    Accumulators {
+        acc1: 0x60EA27EEADC0B5D6, // PRIME1 + PRIME2
+        acc2: PRIME2,
+        acc3: 0,
+        acc4: 0x61C8864E7A143579, // 0 - PRIME1
     }
-    let mut a: u64 = 0x60EA27EEADC0B5D6; // PRIME1 + PRIME2
-    let mut b: u64 = PRIME2;
-    let mut c: u64 = 0;
-    let mut d: u64 = 0x61C8864E7A143579; // 0 - PRIME1
+}
+
+// The stripe of 32 bytes at a place, a lane to each accumulator.
+fn stripe(from: Accumulators, s: &[u8], at: usize) -> Accumulators
+    requires { ⌜ at + 32 ≤ length (now s) ⌝ }
+    ensures { λ r. ⌜ r .acc1 ≡ round (from .acc1) (lane (now (s .entry)) at 8) ⌝ }
+    ensures { λ r. ⌜ r .acc2 ≡ round (from .acc2) (lane (now (s .entry)) (8 + at) 8) ⌝ }
+    ensures { λ r. ⌜ r .acc3 ≡ round (from .acc3) (lane (now (s .entry)) (16 + at) 8) ⌝ }
+    ensures { λ r. ⌜ r .acc4 ≡ round (from .acc4) (lane (now (s .entry)) (24 + at) 8) ⌝ }
+{
+    Accumulators {
+        acc1: round(from.acc1, lane(s, at, 8)),
+        acc2: round(from.acc2, lane(s, 8 + at, 8)),
+        acc3: round(from.acc3, lane(s, 16 + at, 8)),
+        acc4: round(from.acc4, lane(s, 24 + at, 8)),
+    }
+}
+
+// The first n stripes of s.
+fn stripes(from: Accumulators, s: &[u8], n: usize) -> Accumulators
+    requires { ⌜ 32 * n ≤ length (now s) ⌝ }
+    ensures { λ r. ⌜ r .acc1 ≡ taken round 8 32 (now (s .entry)) 0 (from .acc1) n ⌝ }
+    ensures { λ r. ⌜ r .acc2 ≡ taken round 8 32 (now (s .entry)) 8 (from .acc2) n ⌝ }
+    ensures { λ r. ⌜ r .acc3 ≡ taken round 8 32 (now (s .entry)) 16 (from .acc3) n ⌝ }
+    ensures { λ r. ⌜ r .acc4 ≡ taken round 8 32 (now (s .entry)) 24 (from .acc4) n ⌝ }
+{
+    let mut acc = from;
     let mut k: usize = 0;
     while k < n {
-        a = round(a, lane(s, 32 * k, 8));
-        b = round(b, lane(s, 8 + 32 * k, 8));
-        c = round(c, lane(s, 16 + 32 * k, 8));
-        d = round(d, lane(s, 24 + 32 * k, 8));
+        acc = stripe(acc, s, 32 * k);
         k += 1;
     }
-    converge(a, b, c, d)
+    acc
+}
+
+fn converge(acc: Accumulators) -> u64
+    ensures { λ r. ⌜ r ≡ converge (acc .acc1) (acc .acc2) (acc .acc3) (acc .acc4) ⌝ }
+{
+    let half = wrapping_add_u64(rotl(acc.acc1, 1), rotl(acc.acc2, 7));
+    let sum = wrapping_add_u64(
+        wrapping_add_u64(half, rotl(acc.acc3, 12)),
+        rotl(acc.acc4, 18),
+    );
+    let merged = merge_accumulator(merge_accumulator(sum, acc.acc1), acc.acc2);
+    merge_accumulator(merge_accumulator(merged, acc.acc3), acc.acc4)
 }
 
 fn consume8(acc: u64, x: u64) -> u64
@@ -149,12 +182,29 @@ fn avalanche(acc: u64) -> u64
     b ^ (b >> 32)
 }
 
+// Steps 4 to 6, with the accumulator of step 3, the length of the whole input and what is left of it.
+// That fewer than 32 bytes are left is said again by a remainder, so that LLVM lays the lanes out without a loop.
+fn finish(acc: u64, total: u64, rest: &[u8]) -> u64
+    requires { ⌜ length (now rest) < 32 ⌝ }
+    ensures { λ r. ⌜ r ≡ finish acc total (now (rest .entry)) ⌝ }
+{
+    let n = rest.len();
+    let all = &rest[..n];
+    let eights = remaining(all, 0, 8, n % 32 / 8, wrapping_add_u64(acc, total));
+    let fours = remaining(all, n / 8 * 8, 4, n % 8 / 4, eights);
+    avalanche(remaining(all, n / 4 * 4, 1, n % 4, fours))
+}
+
+// A slice that is handed on whole goes through memory, in this function and in its caller; a part of it goes in registers.
 pub fn xxh64(s: &[u8]) -> u64
     ensures { λ r. ⌜ r ≡ xxh64 (now (s .entry)) ⌝ }
 {
     let n = s.len();
-    let whole = wrapping_add_u64(stripes(s, n / 32), n as u64);
-    let eights = remaining(s, n / 32 * 32, 8, n % 32 / 8, whole);
-    let fours = remaining(s, n / 8 * 8, 4, n % 8 / 4, eights);
-    avalanche(remaining(s, n / 4 * 4, 1, n % 4, fours))
+    let all = &s[..n];
+    if n < 32 {
+        return finish(PRIME5, n as u64, all);
+    }
+    let k = n / 32;
+    let acc = converge(stripes(fresh(), all, k));
+    finish(acc, n as u64, &s[32 * k..])
 }
