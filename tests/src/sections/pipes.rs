@@ -3,7 +3,7 @@
 
 use crate::compare::Compare;
 use crate::generate::{edge, records, with_header_hash, with_length};
-use crate::plain::pack::{header, record, walk};
+use crate::plain::pack::{header, record, walk, Entry};
 use crate::plain::pipe::{State, LIMIT};
 use crate::random::Random;
 use vof::raw::PIPE_STATE;
@@ -165,21 +165,17 @@ fn any_call(compare: &mut Compare, random: &mut Random, state: &[u64]) {
 }
 
 /// Numbers at the ends of every range of a state.
-const ENDS: [u64; 22] = [
+const ENDS: [u64; 18] = [
     0,
     1,
     2,
     3,
     4,
-    5,
     8,
     9,
     31,
     32,
     33,
-    37,
-    168,
-    256,
     LIMIT - 33,
     LIMIT - 32,
     LIMIT - 31,
@@ -256,42 +252,39 @@ pub fn near_the_limit(compare: &mut Compare, random: &mut Random) {
         if random.once_in(4) {
             pack = damaged(random, &list);
         }
-        let length = pack.len() as u64;
-        let (entries, ending) = walk(&pack, LIMIT);
-        let mut ends: Vec<u64> = entries.iter().map(|entry| entry.0 as u64).collect();
-        ends.extend([
-            length,
-            length.saturating_sub(1),
-            random.below(pack.len() + 1) as u64,
-        ]);
-        for room in ends
-            .iter()
-            .flat_map(|end| [*end, end + 1, end + 31, end + 32, end + 33])
-        {
-            let (bytes, before) = (LIMIT - room, random.below(1000) as u64);
-            let state = claims(compare, bytes, before);
-            let (told, verdict) = compare.session(state, &pack, &cuts(random, pack.len(), 5));
-            let fits =
-                |(start, _, value): &&(usize, _, &[u8])| (start + 32 + value.len()) as u64 <= room;
-            let starts = entries
-                .iter()
-                .take_while(fits)
-                .map(|entry| bytes + entry.0 as u64);
-            let shown = told.iter().map(|record| record.start).eq(starts);
-            compare.hold("the records below the limit", &[&pack], shown);
-            if length > room {
-                // A fault that is met earlier comes first.
-                let late = told.len() == entries.len() && ending.is_err();
-                let one = verdict == Err(at(1, 0)) || late;
-                compare.hold("1 at 0 past the limit", &[&pack], one);
-            } else {
-                let moved = |refusal: Refusal| at(refusal.number, bytes + refusal.place.unwrap());
-                let wanted = ending.map(|()| before + told.len() as u64).map_err(moved);
-                compare.hold("the verdict up to the limit", &[&pack], verdict == wanted);
+        let (entries, _) = walk(&pack, LIMIT);
+        let mut places: Vec<usize> = entries.iter().map(|entry| entry.0).collect();
+        places.extend([pack.len().saturating_sub(1), pack.len()]);
+        places.push(random.below(pack.len() + 1));
+        for place in places {
+            for more in [0, 1, 31, 32, 33] {
+                with_room(compare, random, &pack, (place + more) as u64);
             }
         }
     }
     in_long_values(compare, random);
+}
+
+/// The pack where so many bytes are left up to the limit.
+fn with_room(compare: &mut Compare, random: &mut Random, pack: &[u8], room: u64) {
+    let (bytes, before) = (LIMIT - room, random.below(1000) as u64);
+    let state = claims(compare, bytes, before);
+    let (told, verdict) = compare.session(state, pack, &cuts(random, pack.len(), 5));
+    let (entries, ending) = walk(pack, LIMIT);
+    let fits = |entry: &&Entry| (entry.0 + 32 + entry.2.len()) as u64 <= room;
+    let starts = entries.iter().take_while(fits);
+    let starts = starts.map(|entry| bytes + entry.0 as u64);
+    let shown = told.iter().map(|record| record.start).eq(starts);
+    compare.hold("the records up to the limit", &[pack], shown);
+    let moved = |refusal: Refusal| at(refusal.number, bytes + refusal.place.unwrap());
+    let own = ending.map(|()| before + told.len() as u64).map_err(moved);
+    // A fault that is met earlier comes first.
+    let met = told.len() == entries.len() && ending.is_err();
+    let right = match pack.len() as u64 > room {
+        true => verdict == Err(at(1, 0)) || met && verdict == own,
+        false => verdict == own,
+    };
+    compare.hold("the verdict near the limit", &[pack], right);
 }
 
 fn at(number: u8, place: u64) -> Refusal {
