@@ -388,8 +388,8 @@ class Pipe:
     """A pack of at most 2^40 bytes that comes in parts, of any length, empty ones too.
 
     However it is cut, its records and its refusal are those that scan would give of the whole, with
-    this limit for its own; but those before a fault are told too. What is kept between parts has one
-    size.
+    this limit for its own; but those before a fault are told too. What is kept between parts has
+    one size.
 
         pipe = vof.Pipe()
         while part := connection.recv(65536):
@@ -427,9 +427,10 @@ class Pipe:
                 return entries, 0
 
     def feed(self, data):
-        """Takes the next bytes of the pack, and gives an iterator over an Entry for each record that
-        completes in them. Refusals, after these and again at every later call: 1 past the limit, 3
-        to 6 once a header is whole, 8 once a value is. After the end nothing may be fed."""
+        """Takes the next bytes of the pack, and gives an iterator over an Entry for each record
+        that completes in them. Refusals, after these and again at every later call: 1 past the
+        limit, 3 to 6 once a header is whole, 8 once a value is. After the end nothing may be
+        fed."""
         if self._state[1] == 3:
             raise ValueError("vof: the end of the pack was announced")
 
