@@ -18,8 +18,8 @@ def refused(number, place):
 
 
 def broken(data):
-    """A socket whose other end goes and leaves what it was sent: behind the data one read fails, then
-    it ends."""
+    """A socket whose other end goes and leaves what it was sent: behind the data one read fails,
+    then it ends."""
     ours, theirs = socket.socketpair()
     theirs.sendall(b"never read")
     ours.sendall(data)
