@@ -73,7 +73,7 @@ fn cuts(random: &mut Random, length: usize, most: usize) -> Vec<usize> {
 
 pub fn cut_by_chance(compare: &mut Compare, random: &mut Random) {
     random.faults = false;
-    for _ in 0..6_000 {
+    for _ in 0..20_000 {
         let list = good(random, 6);
         let mut pack = list.concat();
         if random.once_in(2) {
@@ -218,7 +218,7 @@ pub fn any_state(compare: &mut Compare, random: &mut Random) {
             }
         }
     }
-    for _ in 0..60_000 {
+    for _ in 0..100_000 {
         let mut state = states[random.below(states.len())].clone();
         let fresh: Vec<u64> = (0..PIPE_STATE).map(|_| any_number(random)).collect();
         match random.below(3) {
