@@ -3,7 +3,7 @@ use Prim.Native.Nat.{ℕ, zero, suc, _+_, _-_, _^_, _≤_, _<_, min}
 use mathlib.Core.Bool.{Bool, true, false, cond}
 use mathlib.Core.List.{List, [], _∷_, _++_, append-nil}
 use mathlib.Core.Option.{Option, none, some}
-use mathlib.Core.Path.{_≡_, refl, sym, ap, _∙_}
+use mathlib.Core.Path.{_≡_, refl, ap, _∙_}
 use native.Mathlib.Nat.{add-zero}
 use native.Mathlib.Omega.{arith}
 use borrow.Author.Tests.{lt-ltb, le-ltb, lt-leb, le-leb, ltb-true, ltb-false, leb-true, leb-false}
@@ -14,31 +14,7 @@ use Rattle.refusals.specs.Sheet.{lowest}
 use Rattle.xxh64.specs.Parts.{Hashing, push, pushed, finished}
 use Rattle.tlv.specs.Found.{headerRows, headerOf}
 use Rattle.pack.specs.Reading.{entryAt}
-use Rattle.pipe.specs.Taking.{
-  Phase,
-  inHeader,
-  inValue,
-  Going,
-  going,
-  inPhase,
-  nextRecord,
-  Next,
-  onward,
-  completes,
-  refuses,
-  valued,
-  opened,
-  headed,
-  byte,
-  wanted,
-  complete,
-  Call,
-  later,
-  refusing,
-  proceed,
-  stepped,
-  advance,
-}
+use Rattle.pipe.specs.Taking.{Phase, inHeader, inValue, Going, going, inPhase, nextRecord, Next, onward, completes, refuses, valued, opened, headed, byte, Call, later, refusing, proceed, stepped, advance}
 use Rattle.pipe.specs.Step.{counted-later, push-count}
 
 later-proceed : (n : ℕ) (f : Next) (rest : Going → Call) → later n (proceed 1 f rest) ≡ proceed (n + 1) f rest

@@ -1,52 +1,26 @@
 -- What the code's tests say of a call, and that its answer is the definition's.
 use Prim.Native.Nat.{ℕ, suc, _+_, _-_, _^_, _≤_, _<_, zero, min}
-use mathlib.Core.Bool.{Bool, true, false, cond, _&&_}
+use mathlib.Core.Bool.{true, false, _&&_}
 use mathlib.Core.List.{List, [], _∷_, _++_}
-use mathlib.Core.Option.{none, some}
 use mathlib.Core.Path.{_≡_, refl, sym, ap, _∙_}
 use native.Mathlib.Omega.{arith}
 use borrow.Author.Tests.{lt-ltb, le-ltb, ltb-true, lt-leb, eq-eqb, ne-eqb}
-use lib.Dec.{leb, ltb, lit<}
+use lib.Dec.{leb, lit<}
 use lib.ListN.{length, take, drop, length-append, length-take, drop-of-length-le}
 use lib.Seq.{length-take-le, take-all}
 use Rattle.refusals.specs.Sheet.{lowest}
 use Rattle.xxh64.specs.Xxh64.{add}
 use Rattle.xxh64.specs.Parts.{Hashing, hashingOf, fresh, pushed, finished, pushed-count}
-use Rattle.tlv.specs.Found.{Found, found, fault, header, headerRows, headerOf, fieldsOf, found-unless, fault-unless}
+use Rattle.tlv.specs.Found.{found, fault, header, headerRows, headerOf, fieldsOf, found-unless, fault-unless}
 use Rattle.tlv.specs.declared.RecordHeader.{RecordHeader}
 use Rattle.pack.specs.Reading.{entryAt}
 use Rattle.pipe.specs.Limit.{pipeLimit}
-use Rattle.pipe.specs.Taking.{
-  inHeader,
-  inValue,
-  Going,
-  Progress,
-  going,
-  refused,
-  ended,
-  inPhase,
-  Next,
-  valued,
-  opened,
-  headed,
-  wanted,
-  complete,
-  refusal,
-  over,
-  Call,
-  refusing,
-  proceed,
-  stepped,
-  advance,
-  close,
-  noticeOf,
-  fits,
-  finish,
-}
+use Rattle.pipe.specs.Taking.{inHeader, inValue, Going, Progress, going, ended, inPhase, Next, valued, opened, headed, wanted, complete, over, Call, refusing, proceed, stepped, advance, close, noticeOf, fits, finish}
 use Rattle.pipe.specs.Taking.{take as take-call}
-use Rattle.pipe.specs.Step.{GoingFits, fits-going, none-before, take-fit}
-use Rattle.pipe.specs.States.{recordAt, progressOf}
+use Rattle.pipe.specs.Step.{GoingFits, fits-going, none-before, take-fit, standing, take-standing, finish-standing}
+use Rattle.pipe.specs.States.{recordAt, progressIn, progressOf}
 use Rattle.pipe.specs.declared.State.{State}
+use Rattle.pipe.specs.declared.Phase.{Phase}
 use Rattle.pipe.specs.declared.Phase.the-variants as Phase
 use Rattle.pipe.proofs.Bulk.{value-within, value-past, value-open, header-within, header-past, header-open}
 
@@ -253,24 +227,29 @@ module _ (s : State) (fit : fits pipeLimit (progressOf s) ≡ true) where
     pub value-ends : refusing 7 (s .start) ≡ finish pipeLimit (progressOf s)
     value-ends = finish-is (going (recordAt s (inValue (s .header) (hashingOf (s .hash))))) in-value
 
-  module _ (n place : ℕ) (is-refused : s .phase ≡ Phase.Refused n place) where
-    in-refusal : progressOf s ≡ refused n place
-    in-refusal = rw is-refused
+  -- it stays as it is
+  module _ (stays : close (progressOf s) ≡ progressOf s) where
+    pub standing-is : (part : List ℕ) → standing (progressOf s) ≡ take-call pipeLimit (progressOf s) part
+    standing-is part = sym (take-standing pipeLimit (progressOf s) part fit stays)
 
-    pub refused-is : (part : List ℕ) → record { after = progressOf s; notice = refusal n place; taken = 0 } ≡ take-call pipeLimit (progressOf s) part
-    unfolding advance
-    refused-is part = (λ i. record { after = in-refusal i; notice = refusal n place; taken = 0 }) ∙ take-is part (refused n place) in-refusal
+    pub standing-ends : standing (progressOf s) ≡ finish pipeLimit (progressOf s)
+    standing-ends = sym (finish-standing pipeLimit (progressOf s) fit stays)
 
-    pub refused-ends : refusing n place ≡ finish pipeLimit (progressOf s)
-    refused-ends = finish-is (refused n place) in-refusal
+pub refused-stays : (s : State) (n place : ℕ) → s .phase ≡ Phase.Refused n place → close (progressOf s) ≡ progressOf s
+refused-stays s n place e = rw e
 
-  module _ (is-ended : s .phase ≡ Phase.Ended) where
-    at-end : progressOf s ≡ ended (s .records)
-    at-end = rw is-ended
+pub ended-stays : (s : State) → s .phase ≡ Phase.Ended → close (progressOf s) ≡ progressOf s
+ended-stays s e = rw e
 
-    pub ended-is : (part : List ℕ) → record { after = progressOf s; notice = over (s .records); taken = 0 } ≡ take-call pipeLimit (progressOf s) part
-    unfolding advance
-    ended-is part = (λ i. record { after = at-end i; notice = over (s .records); taken = 0 }) ∙ take-is part (ended (s .records)) at-end
+-- ---- what a state tells by itself
 
-    pub ended-ends : record { after = ended (s .records); notice = over (s .records); taken = 0 } ≡ finish pipeLimit (progressOf s)
-    ended-ends = finish-is (ended (s .records)) at-end
+pub tells : (s : State) (p : Phase) → s .phase ≡ p → record { after = progressOf s; notice = noticeOf (progressIn p s); taken = 0 } ≡ standing (progressOf s)
+tells s p e = ap (λ (q : Phase). record { after = progressOf s; notice = noticeOf (progressIn q s); taken = 0 }) (sym e)
+
+-- the phase that it had plays no part in one that it goes over to
+pub phase-any : (p q : Phase) (s : State)
+    → progressIn p (record { phase = q; start = s .start; records = s .records; header = s .header; held = s .held; hash = s .hash }) ≡ progressIn p s
+phase-any Phase.Header q s = refl
+phase-any Phase.Value q s = refl
+phase-any (Phase.Refused n place) q s = refl
+phase-any Phase.Ended q s = refl

@@ -1,28 +1,25 @@
 -- Where the handing over of a pack in parts stands: some records were told, and the run over the whole pack goes on from a place.
-use Prim.Native.Nat.{ℕ, zero, suc, _+_, _-_, _*_, _^_, _≤_, _<_, min}
-use mathlib.Core.Bool.{Bool, true, false, cond}
-use mathlib.Core.List.{List, [], _∷_, _++_, append-assoc, append-nil}
+use Prim.Native.Nat.{ℕ, suc, _+_, _-_, _*_, _^_, _≤_, _<_}
+use mathlib.Core.Bool.{true, cond}
+use mathlib.Core.List.{List, [], _∷_, _++_}
 use mathlib.Core.Option.{none, some}
 use mathlib.Core.Path.{_≡_, refl, sym, ap, subst, _∙_}
-use native.Mathlib.Nat.{add-zero}
 use native.Mathlib.Omega.{arith}
-use borrow.Author.Tests.{lt-ltb, le-ltb, le-leb, lt-leb}
-use lib.Dec.{leb, ltb, lit<}
-use lib.ListN.{length, take, drop, getD, length-append, length-drop, length-take, take-append-drop, drop-of-length-le}
-use lib.Seq.{drop-drop, take-all, length-take-le, drop-append-le}
-use Rattle.slices.specs.Logic.{absurd-numbers}
-use Rattle.slices.specs.Overwriting.{overwritten, overwritten-more, none-overwritten}
+use lib.Dec.{ltb, lit<}
+use lib.ListN.{length, take, drop, length-drop, take-append-drop, drop-of-length-le}
+use lib.Seq.{drop-drop, length-take-le, drop-append-le}
+use Rattle.slices.specs.Overwriting.{overwritten}
 use Rattle.pack.specs.declared.Entry.{Entry}
 use Rattle.pack.specs.Reading.{Ending, whole}
 use Rattle.pack.specs.Reading as pack
 use Rattle.pipe.specs.Limit.{pipeLimit}
 use Rattle.pipe.specs.Taking.{Progress, going, refused, ended, atStart, Notice, wanted, complete, refusal, over, malformed, Call, advance, close, noticeOf, fits, finish}
 use Rattle.pipe.specs.Taking.{take as call}
-use Rattle.pipe.specs.Step.{TakenOf, Takes, GoingFits, going-fits, Stands, standing, take-fit, take-fits, take-stands, advance-taken}
-use Rattle.pipe.specs.Sessions.{Run, silent, tell, run, closed, recordIn, run-none, run-passed, run-told}
+use Rattle.pipe.specs.Step.{TakenOf, Takes, going-fits, Stands, standing, take-fit, take-fits, take-stands, advance-taken}
+use Rattle.pipe.specs.Sessions.{Run, silent, tell, run, recordIn, run-none, run-passed, run-told}
 use Rattle.pipe.specs.Feeding.{wordsIn, wordsOf, endingIn, partEnd, part-end-last, part-end-within}
 use Rattle.pipe.proofs.Written.{written, written-none, written-more, written-all, length-written}
-use Rattle.pipe.specs.Whole.{verdict, readRun, piped, run-piped, start-fits}
+use Rattle.pipe.specs.Whole.{verdict, piped, run-piped, start-fits}
 
 small : pipeLimit < 2 ^ 64
 small = lit< tt

@@ -1,17 +1,17 @@
 -- The words of the records told so far, of which the first so many are written.
-use Prim.Native.Nat.{ℕ, zero, suc, _+_, _*_, _≤_, _<_, min}
+use Prim.Native.Nat.{ℕ, _+_, _*_, _≤_, _<_, min}
 use mathlib.Core.Bool.{Bool, true, false, cond}
-use mathlib.Core.List.{List, [], _∷_, _++_, append-assoc, append-nil}
+use mathlib.Core.List.{List, [], _∷_, _++_}
 use mathlib.Core.Path.{_≡_, refl, sym, ap, _∙_}
 use native.Mathlib.Omega.{arith}
 use borrow.Author.Tests.{ltb-true, ltb-false, le-leb, lt-leb}
-use lib.Dec.{leb, ltb}
-use lib.ListN.{length, take, drop, length-append, length-drop, length-take}
+use lib.Dec.{ltb}
+use lib.ListN.{length, take, drop, length-drop, length-take}
 use lib.Seq.{take-add, take-all, take-length, length-take-le}
 use Rattle.slices.specs.Overwriting.{overwritten, overwritten-more, none-overwritten, length-overwritten}
 use Rattle.pack.specs.declared.Entry.{Entry}
 use Rattle.pack.specs.Reading.{Reading}
-use Rattle.pipe.specs.Feeding.{wordsIn, wordsOf, Feeding, told, short, fed, wordsAfter}
+use Rattle.pipe.specs.Feeding.{wordsIn, wordsOf, told, short, fed, wordsAfter}
 
 pub length-words : (es : List Entry) → length (wordsOf es) ≡ 4 * length es
 unfolding wordsOf

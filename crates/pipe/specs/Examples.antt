@@ -6,14 +6,16 @@ use lib.ListN.{drop, set}
 use lib.ListN.{take as front}
 use Rattle.refusals.specs.Sheet.{lowest}
 use Rattle.endian.specs.Numbers.{little, littleBytes, big, bigBytes}
-use Rattle.xxh64.specs.Xxh64.{add, mul, rotl, foldHigh, lane, taken, round, mergeAccumulator, converge, stripes, consume8, consume4, consume1, consume, avalanche, xxh64}
+use Rattle.xxh64.specs.Xxh64.{add, mul, rotl, foldHigh, lane, taken, round, mergeAccumulator, converge, stripes, consume8, consume4, consume1}
+use Rattle.xxh64.specs.Xxh64.{consume, avalanche, xxh64}
 use Rattle.xxh64.specs.Parts as parts
 use Rattle.xxh64.specs.Parts.{fresh, holding, striped, push, finished}
 use Rattle.tlv.specs.Layout.{field, fields, bytesOf, head, layout}
 use Rattle.tlv.specs.Found.{headerRows, headerOf}
 use Rattle.pack.specs.declared.Entry.{Entry}
 use Rattle.pipe.specs.Limit.{pipeLimit}
-use Rattle.pipe.specs.Taking.{Progress, going, inHeader, atStart, valued, headed, byte, Notice, wanted, complete, refusal, over, malformed, advance, fits, take, finish}
+use Rattle.pipe.specs.Taking.{Progress, going, inHeader, atStart, valued, headed, byte, Notice, wanted, complete, refusal, over, malformed}
+use Rattle.pipe.specs.Taking.{advance, fits, take, finish}
 
 -- what each call answers, and how many bytes it takes: one for each part, and two that announce the end
 abbrev answers : Progress → List (List ℕ) → List (Notice × ℕ)

@@ -1,6 +1,6 @@
 -- All the bytes of a pack, one after the other; and that a session, in whatever parts they are handed over, tells the same.
 use Prim.Native.Nat.{ℕ, zero, suc, _+_, _-_, _^_, _≤_, _<_}
-use mathlib.Core.Bool.{Bool, true, false, cond}
+use mathlib.Core.Bool.{true}
 use mathlib.Core.List.{List, [], _∷_, _++_, flatten}
 use mathlib.Core.Option.{Option, none, some}
 use mathlib.Core.Path.{_≡_, refl, sym, ap, _∙_}
@@ -9,35 +9,9 @@ use lib.ListN.{length, drop, length-drop}
 use lib.Seq.{drop-append-le}
 use Rattle.slices.specs.Logic.{absurd-numbers}
 use Rattle.pack.specs.declared.Entry.{Entry}
-use Rattle.pipe.specs.Taking.{
-  Going,
-  Progress,
-  going,
-  refused,
-  ended,
-  Next,
-  onward,
-  completes,
-  refuses,
-  byte,
-  Notice,
-  wanted,
-  complete,
-  refusal,
-  over,
-  malformed,
-  Call,
-  counted,
-  later,
-  refusing,
-  proceed,
-  advance,
-  close,
-  fits,
-  take,
-  finish,
-}
-use Rattle.pipe.specs.Step.{joined, andThen, TakenOf, Takes, advance-taken, advance-append, advance-fits, take-fit}
+use Rattle.pipe.specs.Taking.{Going, Progress, going, refused, ended, Next, onward, completes, refuses, byte, Notice, wanted, complete, refusal}
+use Rattle.pipe.specs.Taking.{over, malformed, Call, counted, proceed, advance, close, fits, take, finish}
+use Rattle.pipe.specs.Step.{joined, TakenOf, advance-taken, advance-append, advance-fits, take-fit}
 
 -- ---- all the bytes
 
@@ -150,7 +124,8 @@ module _ (limit : ℕ) where
   run-append (going g) [] ys = refl
   run-append (going g) (b ∷ xs) ys = go (byte limit g b) (λ next. run-append (going next) xs ys)
     where
-      go : (f : Next) → ((next : Going) → run limit (going next) (xs ++ ys) ≡ chained (run limit (going next) xs) (run limit (run limit (going next) xs .after) ys))
+      go : (f : Next)
+          → ((next : Going) → run limit (going next) (xs ++ ys) ≡ chained (run limit (going next) xs) (run limit (run limit (going next) xs .after) ys))
           → followed f (λ next. run limit (going next) (xs ++ ys))
           ≡ chained (followed f (λ next. run limit (going next) xs)) (run limit (followed f (λ next. run limit (going next) xs) .after) ys)
       go (onward next) more = more next

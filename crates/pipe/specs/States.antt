@@ -1,6 +1,4 @@
 -- How the code keeps what is between two calls, and what each of its answers says. Bytes of the arrays past those that are held play no part.
-use mathlib.Core.List.{List}
-use Prim.Native.Nat.{ℕ}
 use lib.ListN.{take}
 use Rattle.xxh64.specs.Parts.{hashingOf}
 use Rattle.pipe.specs.Taking as pipe

@@ -1,67 +1,26 @@
 -- The law of the step: what a call does for xs and then one for ys is what one does for both together, as far as it takes them. And what every call
 -- keeps: a state in whose ranges each number is, and a refusal for ever.
-use Prim.Native.Nat.{ℕ, zero, suc, _+_, _-_, _%_, _^_, _≤_, _<_}
+use Prim.Native.Nat.{ℕ, suc, _+_, _-_, _%_, _^_, _≤_, _<_}
 use mathlib.Core.Bool.{Bool, true, false, cond, not, _&&_, _||_}
 use mathlib.Core.List.{List, [], _∷_, _++_}
 use mathlib.Core.Option.{Option, none, some}
 use mathlib.Core.Path.{_≡_, refl, sym, ap, subst, _∙_}
 use native.Mathlib.Nat.{zero-add, add-assoc}
 use native.Mathlib.Omega.{arith}
-use borrow.Author.Tests.{lt-ltb, le-ltb, le-leb, ltb-true, ltb-false, leb-true, leb-false, ne-eqb}
+use borrow.Author.Tests.{le-ltb, le-leb, ltb-true, ltb-false, leb-true, leb-false, ne-eqb}
 use lib.Dec.{eqb, leb, ltb}
 use lib.ListN.{length, length-append}
 use lib.ListN.{take as List-take}
-use Rattle.slices.specs.Logic.{both, clash, absurd-numbers}
-use Rattle.refusals.specs.Sheet.{Row, lowest}
+use Rattle.slices.specs.Logic.{both, absurd-numbers}
+use Rattle.refusals.specs.Sheet.{lowest}
 use Rattle.xxh64.specs.Xxh64.{xxh64, add}
 use Rattle.xxh64.specs.Parts.{Hashing, fresh, push, pushed, finished, pushed-count}
 use Rattle.tlv.specs.Layout.{magic, field}
 use Rattle.tlv.specs.Found.{headerRows, headerOf}
 use Rattle.pack.specs.Reading.{entryAt}
-use Rattle.pack.specs.declared.Entry.{Entry}
-use Rattle.pipe.specs.Taking.{
-  Phase,
-  inHeader,
-  inValue,
-  Going,
-  Progress,
-  going,
-  refused,
-  ended,
-  inPhase,
-  nextRecord,
-  sizeOf,
-  position,
-  Next,
-  onward,
-  completes,
-  refuses,
-  valued,
-  opened,
-  headed,
-  grown,
-  byte,
-  Notice,
-  wanted,
-  complete,
-  refusal,
-  over,
-  malformed,
-  Call,
-  counted,
-  later,
-  refusing,
-  proceed,
-  advance,
-  cut,
-  close,
-  noticeOf,
-  phaseFits,
-  fits,
-  unfit,
-  take,
-  finish,
-}
+use Rattle.pipe.specs.Taking.{Phase, inHeader, inValue, Going, Progress, going, refused, ended, inPhase, nextRecord, sizeOf, position, Next}
+use Rattle.pipe.specs.Taking.{onward, completes, refuses, valued, opened, headed, grown, byte, Notice, wanted, complete, refusal, over}
+use Rattle.pipe.specs.Taking.{malformed, Call, counted, later, proceed, advance, cut, close, noticeOf, phaseFits, fits, unfit, take, finish}
 
 -- what a call did, and where it wants more, what `rest` does
 abbrev pub joined : Notice → Call → (Progress → Call) → Call
@@ -132,7 +91,8 @@ counted-later (over records) m n k = refl
 counted-later malformed m n k = refl
 
 -- taken before both, or before the first
-later-joined : (n : ℕ) (notice : Notice) (c : Call) (rest : Progress → Call) → c .notice ≡ notice → later n (joined notice c rest) ≡ joined notice (later n c) rest
+later-joined : (n : ℕ) (notice : Notice) (c : Call) (rest : Progress → Call) → c .notice ≡ notice
+    → later n (joined notice c rest) ≡ joined notice (later n c) rest
 later-joined n wanted c rest e =
     let d = rest (c .after) in
     let known : counted (c .notice) (n + c .taken) ≡ n + c .taken = ap (λ (w : Notice). counted w (n + c .taken)) e in
@@ -161,7 +121,8 @@ module _ (limit : ℕ) where
   advance-append (going g) (b ∷ xs) ys = go (byte limit g b) (λ next. advance-append (going next) xs ys)
     where
       go : (f : Next) → ((next : Going) → advance limit (going next) (xs ++ ys) ≡ andThen (advance limit (going next) xs) (λ q. advance limit q ys))
-          → proceed 1 f (λ next. advance limit (going next) (xs ++ ys)) ≡ andThen (proceed 1 f (λ next. advance limit (going next) xs)) (λ q. advance limit q ys)
+          → proceed 1 f (λ next. advance limit (going next) (xs ++ ys))
+          ≡ andThen (proceed 1 f (λ next. advance limit (going next) xs)) (λ q. advance limit q ys)
       go (onward next) more =
           let c = advance limit (going next) xs in
           ap (later 1) (more next) ∙ later-joined 1 (c .notice) c (λ q. advance limit q ys) refl
@@ -375,15 +336,7 @@ module _ (limit : ℕ) where
   pub take-stands : (p : Progress) (s : List ℕ) → fits limit p ≡ true → Stands (take limit p s .notice) (take limit p s)
   take-stands p s f = rw (take-fit limit p s f) (advance-stands p s)
 
-  -- nothing of the part is taken where it is refused, and the refusal is kept
-  pub take-refusal : (p : Progress) (s : List ℕ) (n place : ℕ) → take limit p s .notice ≡ refusal n place → take limit p s ≡ standing (refused n place)
-  take-refusal p s n place e = go (fits limit p) refl
-    where
-      go : (t : Bool) → fits limit p ≡ t → take limit p s ≡ standing (refused n place)
-      go true f = subst (λ (w : Notice). Stands w (take limit p s)) e (take-stands p s f)
-      go false f = absurd-numbers (let u = take-unfit limit p s f in cc)
-
-  -- for ever
+  -- a verdict stays
   pub take-standing : (p : Progress) (s : List ℕ) → fits limit p ≡ true → close p ≡ p → take limit p s ≡ standing p
   unfolding take advance
   take-standing (refused n place) s f e = rw f
@@ -399,27 +352,56 @@ module _ (limit : ℕ) where
   unfolding finish
   finish-standing p f e = rw (f, e)
 
-  -- the announced end leaves a verdict that stays
-  pub finish-fits : (p : Progress) → fits limit p ≡ true → (fits limit (finish limit p .after) ≡ true) × (finish limit p ≡ standing (close p)) × (close (close p) ≡ close p)
-  unfolding finish
-  finish-fits p f = rw f (close-fits p f, refl, close-close p)
-    where
-      cut-close : (g : Going) (p : Phase) → close (cut g p) ≡ cut g p
-      cut-close g (inHeader []) = refl
-      cut-close g (inHeader (b ∷ t)) = refl
-      cut-close g (inValue head hashing) = refl
+  cut-close : (g : Going) (p : Phase) → close (cut g p) ≡ cut g p
+  cut-close g (inHeader []) = refl
+  cut-close g (inHeader (b ∷ t)) = refl
+  cut-close g (inValue head hashing) = refl
 
-      close-close : (p : Progress) → close (close p) ≡ close p
-      close-close (going g) = cut-close g (g .phase)
-      close-close (refused n place) = refl
-      close-close (ended records) = refl
+  close-close : (p : Progress) → close (close p) ≡ close p
+  close-close (going g) = cut-close g (g .phase)
+  close-close (refused n place) = refl
+  close-close (ended records) = refl
 
-      cut-fits : (g : Going) (p : Phase) → g .start ≤ limit → g .records ≤ g .start → fits limit (cut g p) ≡ true
-      cut-fits g (inHeader []) l m = ended-fits limit (g .records) (omega arith)
-      cut-fits g (inHeader (b ∷ t)) l m = refused-fits limit 2 (g .start) (record { least = omega arith; most = omega arith; within = l })
-      cut-fits g (inValue head hashing) l m = refused-fits limit 7 (g .start) (record { least = omega arith; most = omega arith; within = l })
+  cut-fits : (g : Going) (p : Phase) → g .start ≤ limit → g .records ≤ g .start → fits limit (cut g p) ≡ true
+  cut-fits g (inHeader []) l m = ended-fits limit (g .records) (omega arith)
+  cut-fits g (inHeader (b ∷ t)) l m = refused-fits limit 2 (g .start) (record { least = omega arith; most = omega arith; within = l })
+  cut-fits g (inValue head hashing) l m = refused-fits limit 7 (g .start) (record { least = omega arith; most = omega arith; within = l })
 
-      close-fits : (p : Progress) → fits limit p ≡ true → fits limit (close p) ≡ true
-      close-fits (going g) f = let h = fits-going limit g f in cut-fits g (g .phase) (omega (arith, h .within)) (h .few)
-      close-fits (refused n place) f = f
-      close-fits (ended records) f = f
+  close-fits : (p : Progress) → fits limit p ≡ true → fits limit (close p) ≡ true
+  close-fits (going g) f = let h = fits-going limit g f in cut-fits g (g .phase) (omega (arith, h .within)) (h .few)
+  close-fits (refused n place) f = f
+  close-fits (ended records) f = f
+
+-- every later call, of either kind, answers the same, takes nothing and leaves it as it is
+pub record ForEver (limit : ℕ) (p : Progress) : Type 0 where
+  pub taking : (s : List ℕ) → take limit p s ≡ standing p
+  pub announcing : finish limit p ≡ standing p
+
+-- THE THEOREMS
+pub refused-for-ever : (limit : ℕ) → limit < 2 ^ 64 → (p : Progress) (s : List ℕ) (n place : ℕ) → take limit p s .notice ≡ refusal n place
+    → (take limit p s ≡ standing (refused n place)) × ForEver limit (refused n place)
+refused-for-ever limit small p s n place e = go (fits limit p) refl
+  where
+    go : (t : Bool) → fits limit p ≡ t → (take limit p s ≡ standing (refused n place)) × ForEver limit (refused n place)
+    go true f =
+        let it : take limit p s ≡ standing (refused n place) = subst (λ (w : Notice). Stands w (take limit p s)) e (take-stands limit p s f) in
+        let fit : fits limit (refused n place) ≡ true = subst (λ (c : Call). fits limit (c .after) ≡ true) it (take-fits limit small p s f) in (
+          it,
+          record {
+            taking = λ t. take-standing limit (refused n place) t fit refl;
+            announcing = finish-standing limit (refused n place) fit refl;
+          },
+        )
+    go false f = absurd-numbers (let u = take-unfit limit p s f in cc)
+
+pub ended-for-ever : (limit : ℕ) (p : Progress) → fits limit p ≡ true → (finish limit p ≡ standing (close p)) × ForEver limit (close p)
+unfolding finish
+ended-for-ever limit p f =
+    let fit = close-fits limit p f in
+    let stays = close-close limit p in (
+      rw f,
+      record {
+        taking = λ t. take-standing limit (close p) t fit stays;
+        announcing = finish-standing limit (close p) fit stays;
+      },
+    )

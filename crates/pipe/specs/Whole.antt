@@ -1,54 +1,28 @@
 -- What the run over all the bytes of a pack tells is what the reading of the whole pack does (crates/pack/specs/Reading.antt); of a longer pack, what was
 -- told before the limit stays told, and 1 at place 0 is given unless a fault was met earlier.
-use Prim.Native.Nat.{ℕ, zero, suc, _+_, _-_, _%_, _^_, _≤_, _<_}
-use mathlib.Core.Bool.{Bool, true, false, cond, not, _||_}
+use Prim.Native.Nat.{ℕ, suc, _+_, _-_, _^_, _≤_, _<_}
+use mathlib.Core.Bool.{Bool, true, false, cond, not}
 use mathlib.Core.List.{List, [], _∷_, _++_, append-assoc, append-nil, flatten}
 use mathlib.Core.Option.{Option, none, some}
 use mathlib.Core.Path.{_≡_, refl, sym, ap, _∙_}
-use native.Mathlib.Nat.{zero-add}
 use native.Mathlib.Omega.{arith}
-use borrow.Author.Tests.{lt-ltb, le-ltb, lt-leb, le-leb, ltb-true, ltb-false, leb-true, leb-false, eq-eqb, ne-eqb}
-use lib.Dec.{eqb, leb, ltb}
-use lib.ListN.{length, drop, length-append, length-take, length-drop, take-append-drop}
+use borrow.Author.Tests.{lt-ltb, le-ltb, lt-leb, le-leb, ltb-true, ltb-false}
+use lib.Dec.{eqb, ltb}
+use lib.ListN.{length, drop, length-append, length-drop, take-append-drop}
 use lib.ListN.{take as front}
-use lib.Seq.{append-snoc, take-at, drop-at, take-all, take-append-le, drop-append-le, length-take-le}
+use lib.Seq.{append-snoc, take-at, drop-at, take-append-le, drop-append-le, length-take-le}
 use Rattle.slices.specs.Logic.{absurd-numbers}
 use Rattle.refusals.specs.Sheet.{lowest}
-use Rattle.xxh64.specs.Xxh64.{xxh64, add}
-use Rattle.xxh64.specs.Parts.{Hashing, fresh, push, pushed, finished, pushed-append, pushed-count, hash-in-parts}
-use Rattle.tlv.specs.Layout.{magic, field}
-use Rattle.tlv.specs.Found.{Found, end, found, fault, foundUnless, header, headerRows, valueRows, headerOf, step, step-none, step-of-fault, step-of-header}
+use Rattle.xxh64.specs.Xxh64.{add}
+use Rattle.xxh64.specs.Parts.{fresh, push, pushed, finished, pushed-append, pushed-count, hash-in-parts}
+use Rattle.tlv.specs.Layout.{field}
+use Rattle.tlv.specs.Found.{found, fault, foundUnless, header, headerRows, valueRows, headerOf, step, step-none, step-of-fault, step-of-header}
 use Rattle.tlv.specs.declared.RecordHeader.{RecordHeader}
 use Rattle.pack.specs.Reading.{Ending, whole, Reading, cons, records, reading, entryAt, records-end, records-fault, records-found}
 use Rattle.pack.specs.Reading as pack
 use Rattle.pack.specs.declared.Entry.{Entry}
-use Rattle.pipe.specs.Taking.{
-  Phase,
-  inHeader,
-  inValue,
-  Going,
-  Progress,
-  going,
-  refused,
-  ended,
-  inPhase,
-  atStart,
-  nextRecord,
-  sizeOf,
-  position,
-  Next,
-  onward,
-  completes,
-  refuses,
-  valued,
-  opened,
-  headed,
-  grown,
-  byte,
-  cut,
-  close,
-  fits,
-}
+use Rattle.pipe.specs.Taking.{Phase, inHeader, inValue, Going, Progress, going, refused, ended, inPhase, atStart, nextRecord, position, Next}
+use Rattle.pipe.specs.Taking.{onward, completes, refuses, valued, opened, headed, byte, cut, close}
 use Rattle.pipe.specs.Step.{atEndOnly, GoingFits, NextFits, going-fits, byte-fits}
 use Rattle.pipe.specs.Sessions.{Run, silent, tell, followed, run, closed, run-append, Session, session-run}
 
@@ -166,7 +140,8 @@ module _ (limit : ℕ) (small : limit < 2 ^ 64) where
   Reads s start before t r = closed r ≡ readRun before (records start 0 (t ++ s))
 
   abbrev From : List ℕ → Type 0
-  From s = (start before : ℕ) (p : Phase) (t : List ℕ) → Holds p t → start + length t + length s ≤ limit → Reads s start before t (run limit (going (at start before p)) s)
+  From s = (start before : ℕ) (p : Phase) (t : List ℕ) → Holds p t → start + length t + length s ≤ limit
+      → Reads s start before t (run limit (going (at start before p)) s)
 
   at-end : From []
   unfolding run
@@ -261,7 +236,8 @@ module _ (limit : ℕ) (small : limit < 2 ^ 64) where
         let grows : push (pushed fresh v) b ≡ pushed fresh (v ++ (b ∷ [])) = sym (pushed-append fresh v (b ∷ []) ∙ (unfold pushed in refl)) in
         let n : length (v ++ (b ∷ [])) ≡ length v + 1 = length-append v (b ∷ []) in
         let m : length (head ++ (v ++ (b ∷ []))) ≡ 32 + (length v + 1) = rw (length-append, holds .3, n) in
-        let bytes : head ++ v ++ b ∷ s ≡ head ++ (v ++ (b ∷ [])) ++ s = sym (ap (λ x. x ++ s) (sym (append-assoc head v (b ∷ []))) ∙ append-snoc (head ++ v) b s) in
+        let bytes : head ++ v ++ b ∷ s ≡ head ++ (v ++ (b ∷ [])) ++ s
+        = sym (ap (λ x. x ++ s) (sym (append-assoc head v (b ∷ []))) ∙ append-snoc (head ++ v) b s) in
         rw (is, holds .2, lt-leb limit (start + (32 + pushed fresh v .count)) (omega arith), grows, bytes)
         (value-reads (inValue head (pushed fresh v)) head (v ++ (b ∷ [])) (holds .3) (holds .4) (omega arith) (omega arith))
 
@@ -301,11 +277,12 @@ abbrev pub pastLimit : Ending → Ending
 pastLimit whole = pack.refused 1 0
 pastLimit (pack.refused n place) = cond (atEndOnly n) (pack.refused 1 0) (pack.refused n place)
 
+abbrev pub limited : Reading → Reading
+limited r = record { entries = r .entries; ending = pastLimit (r .ending) }
+
 -- what the pipe tells of a pack
 unfoldable pub piped : ℕ → List ℕ → Reading
-piped limit s =
-    let r = records 0 0 (front limit s) in
-    cond (ltb limit (length s)) (record { entries = r .entries; ending = pastLimit (r .ending) }) (records 0 0 s)
+piped limit s = cond (ltb limit (length s)) (limited (records 0 0 (front limit s))) (records 0 0 s)
 
 -- up to the limit it is what the walker tells
 pub piped-within : (limit : ℕ) (s : List ℕ) → length s ≤ limit → piped limit s ≡ reading limit s
@@ -344,7 +321,7 @@ module _ (limit : ℕ) (small : limit < 2 ^ 64) where
       of-front t l = from limit small t 0 0 (inHeader []) [] (refl, omega arith) (omega arith)
 
       over : (rest : List ℕ) → 0 < length rest → (t : List ℕ) → length t ≡ limit
-          → closed (run limit (going atStart) (t ++ rest)) ≡ readRun 0 (record { entries = records 0 0 t .entries; ending = pastLimit (records 0 0 t .ending) })
+          → closed (run limit (going atStart) (t ++ rest)) ≡ readRun 0 (limited (records 0 0 t))
       over [] l t n = absurd (omega arith)
       over (b ∷ rest) l t n =
           let r = run limit (going atStart) t in
@@ -361,7 +338,7 @@ module _ (limit : ℕ) (small : limit < 2 ^ 64) where
           })
 
       go : (t : Bool) → ltb limit (length s) ≡ t
-          → closed (run limit (going atStart) s) ≡ readRun 0 (cond t (record { entries = records 0 0 (front limit s) .entries; ending = pastLimit (records 0 0 (front limit s) .ending) }) (records 0 0 s))
+          → closed (run limit (going atStart) s) ≡ readRun 0 (cond t (limited (records 0 0 (front limit s))) (records 0 0 s))
       go true e =
           let l = ltb-true limit (length s) e in
           ap (λ t. closed (run limit (going atStart) t)) (sym (take-append-drop limit s))

@@ -11,8 +11,9 @@ ghost use Rattle.refusals.specs.Sheet.{lowest};
 ghost use Rattle.xxh64.specs.Parts.{hashingOf};
 ghost use Rattle.tlv.specs.Found.{headerRows, headerOf};
 ghost use Rattle.pipe.specs.Limit.{pipeLimit};
-ghost use Rattle.pipe.specs.Taking.{inHeader, going, atStart, valued, opened, refusing, proceed, stepped, advance, fits, take, finish, ended, over, close};
-ghost use Rattle.pipe.specs.States.{recordAt, progressOf, callOf};
+ghost use Rattle.pipe.specs.Taking.{inHeader, going, atStart, wanted, valued, opened, refusing, proceed, stepped, advance, fits, take, finish, close};
+ghost use Rattle.pipe.specs.Step.{standing};
+ghost use Rattle.pipe.specs.States.{recordAt, progressIn, progressOf, noticeOf, callOf};
 ghost use Rattle.pipe.specs.Feeding.{wordsIn, wordsOf, endingIn, endingOf, feedingOf, fed, wordsAfter, partEnd};
 ghost use Rattle.pipe.specs.Whole.{piped};
 use pack::Entry;
@@ -148,24 +149,62 @@ fn filled(header: [u8; 32], held: usize, part: &[u8]) -> [u8; 32]
     all
 }
 
-fn refuse(state: State, number: u8, place: usize) -> Taken
-    ensures { λ r. ⌜ callOf r ≡ refusing number place ⌝ }
+// More is wanted, and n bytes were taken.
+fn onward(state: State, n: usize) -> Taken
+    ensures { λ r. ⌜ callOf r ≡ record { after = progressOf state; notice = wanted; taken = n } ⌝ }
+{
+    Taken {
+        state,
+        event: Event::Wanted,
+        taken: n,
+    }
+}
+
+// Nothing is taken.
+fn still(state: State, event: Event) -> Taken
+    ensures { λ r. ⌜ callOf r ≡ record { after = progressOf state; notice = noticeOf event; taken = 0 } ⌝ }
+{
+    Taken {
+        state,
+        event,
+        taken: 0,
+    }
+}
+
+// What a state tells by itself: a refusal and the verdict at the end are given again at each call.
+fn standing(state: State) -> Taken
+    ensures { λ r. ⌜ callOf r ≡ standing (progressOf state) ⌝ }
+{
+    let phase = state.phase;
+    match phase {
+        Phase::Header => still(state, Event::Wanted),
+        Phase::Value => still(state, Event::Wanted),
+        Phase::Refused(number, place) => still(state, Event::Refusal(number, place)),
+        Phase::Ended => still(state, Event::Over(state.records)),
+    }
+}
+
+// The state goes over to a phase in which it stays.
+fn close(state: State, phase: Phase) -> Taken
+    ensures { λ r. ⌜ callOf r ≡ standing (progressIn phase state) ⌝ }
 {
     let header = state.header;
     let hash = state.hash;
     let after = State {
-        phase: Phase::Refused(number, place),
+        phase,
         start: state.start,
         records: state.records,
         header,
         held: state.held,
         hash,
     };
-    Taken {
-        state: after,
-        event: Event::Refusal(number, place),
-        taken: 0,
-    }
+    standing(after)
+}
+
+fn refuse(state: State, number: u8, place: usize) -> Taken
+    ensures { λ r. ⌜ callOf r ≡ refusing number place ⌝ }
+{
+    close(state, Phase::Refused(number, place))
 }
 
 // The value goes on, or it is whole, and its hash decides.
@@ -186,11 +225,7 @@ fn settle(state: State, taken: usize) -> Taken
             held: state.held,
             hash,
         };
-        return Taken {
-            state: after,
-            event: Event::Wanted,
-            taken,
-        };
+        return onward(after, taken);
     }
     if fields.hash != hash.finish() {
         return refuse(state, 8, start);
@@ -293,88 +328,48 @@ fn take_header(state: State, part: &[u8]) -> Taken
         hash,
     };
     if held + n < RecordHeader::LENGTH {
-        return Taken {
-            state: after,
-            event: Event::Wanted,
-            taken: n,
-        };
+        return onward(after, n);
     }
     read_header(after, &part[n..], n)
 }
 
-// A part is taken, up to the byte that completes a record. Nothing is taken with a refusal, which is
+// Takes a part, up to the byte that completes a record. Nothing is taken with a refusal, which is
 // given again at each later call.
 pub fn take(state: State, part: &[u8]) -> Taken
     ensures { λ r. ⌜ callOf r ≡ take pipeLimit (progressOf state) (now (part .entry)) ⌝ }
 {
     if !well_formed(state) {
-        return Taken {
-            state,
-            event: Event::Malformed,
-            taken: 0,
-        };
+        return still(state, Event::Malformed);
     }
     let phase = state.phase;
     match phase {
         Phase::Header => take_header(state, part),
         Phase::Value => take_value(state, part, 0),
-        Phase::Refused(number, place) => Taken {
-            state,
-            event: Event::Refusal(number, place),
-            taken: 0,
-        },
-        Phase::Ended => Taken {
-            state,
-            event: Event::Over(state.records),
-            taken: 0,
-        },
+        Phase::Refused(_, _) => standing(state),
+        Phase::Ended => standing(state),
     }
 }
 
 // ---- the end
-
-fn over(state: State) -> Taken
-    ensures { λ r. ⌜ callOf r ≡ record { after = ended (state .records); notice = over (state .records); taken = 0 } ⌝ }
-{
-    let header = state.header;
-    let hash = state.hash;
-    let after = State {
-        phase: Phase::Ended,
-        start: state.start,
-        records: state.records,
-        header,
-        held: state.held,
-        hash,
-    };
-    Taken {
-        state: after,
-        event: Event::Over(state.records),
-        taken: 0,
-    }
-}
 
 // The end is announced: a refusal, or the number of records, again at each later call.
 pub fn end(state: State) -> Taken
     ensures { λ r. ⌜ callOf r ≡ finish pipeLimit (progressOf state) ⌝ }
 {
     if !well_formed(state) {
-        return Taken {
-            state,
-            event: Event::Malformed,
-            taken: 0,
-        };
+        return still(state, Event::Malformed);
     }
     let phase = state.phase;
     match phase {
         Phase::Header => {
             if state.held == 0 {
-                return over(state);
+                return close(state, Phase::Ended);
             }
             refuse(state, 2, state.start)
         }
         Phase::Value => refuse(state, 7, state.start),
-        Phase::Refused(number, place) => refuse(state, number, place),
-        Phase::Ended => over(state),
+        Phase::Refused(_, _) => standing(state),
+        Phase::Ended => standing(state),
     }
 }
 
@@ -441,7 +436,8 @@ fn announced(state: State) -> Verdict
 // the first so many records are written.
 fn feed(pack: &[u8], lengths: &[usize], told: &mut [u64], room: usize) -> Count
     requires { ⌜ 4 * room ≤ length (now told) ⌝ }
-    ensures { λ r. ⌜ (r .records ≡ length (piped pipeLimit (now (pack .entry)) .entries)) × (endingOf (r .verdict) ≡ piped pipeLimit (now (pack .entry)) .ending) ⌝ }
+    ensures { λ r. ⌜ (r .records ≡ length (piped pipeLimit (now (pack .entry)) .entries))
+        × (endingOf (r .verdict) ≡ piped pipeLimit (now (pack .entry)) .ending) ⌝ }
     ensures { λ _. ⌜ now (told .exit) ≡ overwritten (now (told .entry)) 0 (wordsOf (front room (piped pipeLimit (now (pack .entry)) .entries))) ⌝ }
 {
     let len = pack.len();

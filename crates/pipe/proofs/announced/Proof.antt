@@ -1,7 +1,6 @@
 -- `pipe::announced` meets its contract: each event of the call that announces the end is an ending.
 use borrow.Author.Needs.{needs}
 use mathlib.Core.Path.{_≡_, sym, ap, _∙_}
-use Rattle.pack.specs.Reading.{Ending}
 use Rattle.pipe.specs.Taking.{Call, close}
 use Rattle.pipe.specs.Feeding.{endingIn}
 use Rattle.pipe.specs.States.{progressOf, noticeOf}

@@ -1,6 +1,6 @@
 -- `pipe::feed` meets its contract. The invariant: the run over the whole pack goes on from here, with the records told so far and their words written.
 use borrow.Author.Needs.{needs}
-use Prim.Native.Nat.{_+_, _-_, _*_, _≤_}
+use Prim.Native.Nat.{_+_, _-_, _≤_}
 use mathlib.Core.Path.{_≡_, refl, ap, _∙_}
 use native.Mathlib.Omega.{arith}
 use lib.ListN.{length, take}
@@ -12,23 +12,7 @@ use Rattle.pipe.specs.Whole.{piped}
 use Rattle.pipe.specs.Feeding.{wordsOf, endingIn}
 use Rattle.pipe.specs.States.{progressOf, callOf, noticeOf}
 use Rattle.pipe.specs.declared.Event.{Event}
-use Rattle.pipe.proofs.Handing.{
-  AllTold,
-  Turn,
-  turn-first,
-  turn-inside,
-  turn-wanted,
-  turn-last,
-  turn-fits,
-  turn-complete,
-  turn-refused,
-  turn-over,
-  never-unfit,
-  turn-written,
-  turn-length,
-  told-count,
-  told-ending,
-}
+use Rattle.pipe.proofs.Handing.{AllTold, Turn, turn-first, turn-inside, turn-wanted, turn-last, turn-fits, turn-complete, turn-refused, turn-over, never-unfit, turn-written, turn-length, told-count, told-ending}
 use Rattle.pipe.proofs.feed.Statement.{statement}
 use Rattle.pipe.proofs.feed.Tie as tie
 

@@ -1,6 +1,6 @@
 -- `pipe::read_header` meets its contract: a header that is refused, and one whose value begins.
 use borrow.Author.Needs.{needs}
-use mathlib.Core.List.{[], List}
+use mathlib.Core.List.{[]}
 use mathlib.Core.Path.{_≡_, sym, ap, _∙_}
 use native.Mathlib.Omega.{arith}
 use Rattle.xxh64.specs.Parts.{Hashing, hashingOf, fresh}

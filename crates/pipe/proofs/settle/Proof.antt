@@ -19,13 +19,17 @@ slice-aggregate-fields c = search needs
 fields-requires : tie.Need-fields-requires
 fields-requires c κs = search needs
 
+onward-requires : tie.Need-onward-requires
+onward-requires c κs = search needs
+
 returns : tie.Need-returns
 unfolding hashingOf
 returns c =
-    let s = c .before .before .before .before .before .before .before in
+    let s = c .before .before .before .before .before .before .before .before in
     let state = s .args .state in
-    let fields = c .before .before .before .before .fields in
-    settle-more (recordAt state (inHeader [])) (state .header) (long s) (fields .result) (fields .ensures) (hashingOf (state .hash)) (s .args .taken) (c .if1 .taken)
+    let fields = c .before .before .before .before .before .fields in
+    c .onward .ensures
+    ∙ settle-more (recordAt state (inHeader [])) (state .header) (long s) (fields .result) (fields .ensures) (hashingOf (state .hash)) (s .args .taken) (c .before .if1 .taken)
 
 finish-requires : tie.Need-finish-requires
 finish-requires c κs = search needs
@@ -44,14 +48,14 @@ returns-2 c =
     ∙ settle-differs (recordAt state (inHeader [])) (state .header) (long s) (fields .result) (fields .ensures) (hashingOf (state .hash)) (s .args .taken)
     (c .before .before .before .before .if1 .left) (finish .result) (finish .ensures) (c .before .if2 .taken)
 
-add-t18 : tie.Need-add-t18
-add-t18 c = search needs
+add-t17 : tie.Need-add-t17
+add-t17 c = search needs
+
+add-t19 : tie.Need-add-t19
+add-t19 c = search needs
 
 add-t20 : tie.Need-add-t20
 add-t20 c = search needs
-
-add-t21 : tie.Need-add-t21
-add-t21 c = search needs
 
 returns-3 : tie.Need-returns-3
 unfolding hashingOf
@@ -69,11 +73,12 @@ settle-spec =
     (tie.spec
     slice-aggregate-fields
     fields-requires
+    onward-requires
     returns
     finish-requires
     refuse-requires
     returns-2
-    add-t18
+    add-t17
+    add-t19
     add-t20
-    add-t21
     returns-3)

@@ -4,7 +4,7 @@ use mathlib.Core.List.{List, [], _++_}
 use mathlib.Core.Path.{_≡_, sym, ap, _∙_}
 use Prim.Native.Nat.{ℕ, _+_, _-_, _≤_}
 use native.Mathlib.Omega.{arith}
-use lib.ListN.{length, take, drop}
+use lib.ListN.{length, take}
 use lib.Seq.{length-take-le, take-all}
 use Rattle.refusals.specs.Sheet.{lowest}
 use Rattle.slices.specs.Lists.{part-to-end}
@@ -73,16 +73,20 @@ bytes c =
     let s = c .before .before .before .before .before .before in
     ap (λ (n : ℕ). take (s .args .state .held + n) (c .filled .result)) (sym (taken (c .before .before .before .before))) ∙ c .filled .ensures
 
+onward-requires : tie.Need-onward-requires
+onward-requires c κs = search needs
+
 returns-2 : tie.Need-returns-2
 returns-2 c =
-    let s = c .before .before .before .before .before .before .before .before in
+    let s = c .before .before .before .before .before .before .before .before .before in
     let state = s .args .state in
-    let least = c .before .before .before .before .before .before .least in
-    let filled = c .before .before .filled in
+    let least = c .before .before .before .before .before .before .before .least in
+    let filled = c .before .before .before .filled in
     let n = held s in
-    part-held (recordAt state (inHeader [])) (take (state .held) (state .header)) (s .args .part .now) (omega (arith, s .pre .0)) (least .result)
-    (rw n (least .ensures)) (omega (arith, s .pre .1)) (omega (arith, c .before .before .before .before .before .if1 .left))
-    (take (state .held + least .result) (filled .result)) (bytes (c .before .before)) (omega (arith, c .if2 .taken))
+    c .onward .ensures
+    ∙ part-held (recordAt state (inHeader [])) (take (state .held) (state .header)) (s .args .part .now) (omega (arith, s .pre .0)) (least .result)
+    (rw n (least .ensures)) (omega (arith, s .pre .1)) (omega (arith, c .before .before .before .before .before .before .if1 .left))
+    (take (state .held + least .result) (filled .result)) (bytes (c .before .before .before)) (omega (arith, c .before .if2 .taken))
 
 sub-read-header : tie.Need-sub-read-header
 sub-read-header c = search needs
@@ -132,6 +136,7 @@ take-header-spec =
     filled-requires
     add-read-header
     add-if2
+    onward-requires
     returns-2
     sub-read-header
     part-read-header-start

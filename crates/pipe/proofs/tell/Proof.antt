@@ -1,7 +1,7 @@
 -- `pipe::tell` meets its contract: four words fit wherever one of the first so many records stands.
 use borrow.Author.Needs.{needs}
 use borrow.Author.Tests.{lt-ltb, le-ltb}
-use mathlib.Core.Path.{refl, _∙_}
+use mathlib.Core.Path.{_∙_}
 use Prim.Native.Nat.{_*_}
 use native.Mathlib.Omega.{arith}
 use Rattle.slices.specs.Overwriting.{written-within}

@@ -1,13 +1,12 @@
 -- `pipe::well_formed` meets its contract: a case for each phase.
 use borrow.Author.Needs.{needs}
 use borrow.Author.Tests.{le-leb, lt-leb}
-use mathlib.Core.Path.{_≡_, sym, ap, _∙_}
-use Prim.Native.Nat.{_≤_, _<_}
+use mathlib.Core.Path.{_≡_, ap, _∙_}
+use Prim.Native.Nat.{_<_}
 use native.Mathlib.Omega.{arith}
 use lib.ListN.{length}
 use Rattle.tlv.specs.Found.{headerOf}
 use Rattle.tlv.specs.declared.RecordHeader.{RecordHeader}
-use Rattle.pipe.specs.Limit.{pipeLimit}
 use Rattle.pipe.specs.Taking.{fits}
 use Rattle.pipe.proofs.Calls.{fields-whole, header-unfit, header-fit, value-unfit, value-fit, value-far}
 use Rattle.pipe.proofs.well_formed.Statement.{statement}
