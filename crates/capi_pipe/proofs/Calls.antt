@@ -9,7 +9,7 @@ use lib.ListN.{length}
 use Rattle.slices.specs.Logic.{absurd-numbers}
 use Rattle.pipe.specs.Limit.{pipeLimit}
 use Rattle.pipe.specs.Taking.{Progress, going, refused, ended, Notice, refusal, over, malformed, Call, noticeOf, close, fits, unfit, take, finish}
-use Rattle.pipe.specs.Step.{standing, take-unfit, take-fits, take-refusal, finish-fits}
+use Rattle.pipe.specs.Step.{standing, take-unfit, take-fits, refused-for-ever, ended-for-ever}
 use Rattle.pipe.specs.States.{progressOf, callOf}
 use Rattle.pipe.specs.States as pipe
 use Rattle.pipe.specs.declared.State.{State}
@@ -17,7 +17,7 @@ use Rattle.pipe.specs.declared.Event.{Event}
 use Rattle.pipe.specs.declared.Taken.{Taken}
 use Rattle.words.specs.Words.{answer, answer-whole}
 use Rattle.capi_pipe.specs.State.{stateIn, progressIn}
-use Rattle.capi_pipe.specs.WellFormed.{fits-refused, fits-long}
+use Rattle.capi_pipe.specs.WellFormed.{fits-refused, close-fits, fits-long}
 use Rattle.capi_pipe.specs.Answers.{Leaves, takeFrom, endFrom, takeAnswerBy, takeAnswer, takeStores, TakeLeaves, takeToldBy, takeTold, endAnswerBy, endAnswer, endStores, EndLeaves}
 
 -- ---- a state that fits
@@ -39,7 +39,7 @@ module _ (p : Progress) (part : List ℕ) where
   taken-within : (n place : ℕ) → take pipeLimit p part .notice ≡ refusal n place → place ≤ pipeLimit
   taken-within n place is =
       let f = taken-fits (refusal n place) is (λ z. absurd-numbers (cc)) in
-      let after : take pipeLimit p part .after ≡ refused n place = ap (λ (c : Call). c .after) (take-refusal pipeLimit p part n place is) in
+      let after : take pipeLimit p part .after ≡ refused n place = ap (λ (c : Call). c .after) (refused-for-ever pipeLimit (omega arith) p part n place is .0) in
       fits-refused n place (rw after at (take-fits pipeLimit (omega arith) p part f)) .within
 
 -- ---- the end is announced
@@ -57,8 +57,8 @@ module _ (p : Progress) where
   finished-after : (notice : Notice) → finish pipeLimit p .notice ≡ notice → (notice ≡ malformed → ⊥)
       → (fits pipeLimit (close p) ≡ true) × (noticeOf (close p) ≡ notice)
   finished-after notice is h =
-      let all = finish-fits pipeLimit p (finished-fits notice is h) in
-      (rw (all .1) at (all .0), rw (all .1) at is)
+      let fit = finished-fits notice is h in
+      (close-fits p fit, rw (ended-for-ever pipeLimit p fit .0) at is)
 
   finished-within : (n place : ℕ) → finish pipeLimit p .notice ≡ refusal n place → place ≤ pipeLimit
   finished-within n place is = go (close p) (finished-after (refusal n place) is (λ z. absurd-numbers (cc)))

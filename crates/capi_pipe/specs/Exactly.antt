@@ -3,45 +3,17 @@ use Prim.Native.Nat.{ℕ}
 use mathlib.Core.Bool.{Bool, true, false, cond}
 use mathlib.Core.List.{List, [], _∷_}
 use mathlib.Core.Logic.{_↔_}
-use mathlib.Core.Path.{_≡_, refl, sym, ap, _∙_}
+use mathlib.Core.Path.{_≡_, refl, ap, subst}
 use native.Mathlib.Omega.{arith}
 use lib.Dec.{leb}
 use Rattle.slices.specs.Logic.{not-so, absurd-numbers}
 use Rattle.pipe.specs.Limit.{pipeLimit}
-use Rattle.pipe.specs.Taking.{
-  Phase,
-  inHeader,
-  inValue,
-  Going,
-  Progress,
-  going,
-  refused,
-  ended,
-  atStart,
-  Next,
-  onward,
-  completes,
-  refuses,
-  byte,
-  Notice,
-  wanted,
-  complete,
-  refusal,
-  over,
-  malformed,
-  Call,
-  proceed,
-  advance,
-  cut,
-  close,
-  noticeOf,
-  fits,
-  finish,
-}
-use Rattle.pipe.specs.Step.{take-fit, take-unfit, take-fits, take-refusal, finish-fits}
+use Rattle.pipe.specs.Taking.{Phase, inHeader, inValue, Going, Progress, going, refused, ended, atStart}
+use Rattle.pipe.specs.Taking.{Notice, wanted, complete, refusal, over, malformed, Call, cut, close, noticeOf, fits, finish}
+use Rattle.pipe.specs.Step.{Stands, take-unfit, take-fits, take-stands, refused-for-ever, ended-for-ever}
 use Rattle.words.specs.Words.{answer}
 use Rattle.capi_pipe.specs.State.{progressIn, Says}
-use Rattle.capi_pipe.specs.WellFormed.{fits-refused, WellFormed, well-formed-exactly}
+use Rattle.capi_pipe.specs.WellFormed.{fits-refused, close-fits, WellFormed, well-formed-exactly}
 use Rattle.capi_pipe.specs.Answers.{takeFrom, endFrom, roomAnswer, takeAnswerBy, takeAnswer, endAnswerBy, endAnswer}
 
 -- ---- what a call stores
@@ -58,7 +30,9 @@ module _ {w after : List ℕ} where
   take-stays part h s = stays (take-fits pipeLimit (omega arith) (progressIn w) part (well-formed-exactly w .1 h)) s
 
   pub end-stays : WellFormed w → Says (endFrom w .after) w after → WellFormed after
-  end-stays h s = stays (finish-fits pipeLimit (progressIn w) (well-formed-exactly w .1 h) .0) s
+  end-stays h s =
+      let fit = well-formed-exactly w .1 h in
+      stays (rw (ended-for-ever pipeLimit (progressIn w) fit .0) (close-fits (progressIn w) fit)) s
 
 -- ---- 20
 
@@ -72,20 +46,6 @@ room-other words e = go (leb 6 words) e
     go : (t : Bool) → cond t (answer 0 0) (answer 19 0) ≡ answer 20 0 → ⊥
     go true e = omega arith
     go false e = omega arith
-
--- a state that fits gets an answer
-advance-answers : (limit : ℕ) (p : Progress) (s : List ℕ) → advance limit p s .notice ≡ malformed → ⊥
-unfolding advance
-advance-answers limit (refused n place) s e = absurd-numbers (cc)
-advance-answers limit (ended records) s e = absurd-numbers (cc)
-advance-answers limit (going g) [] e = absurd-numbers (cc)
-advance-answers limit (going g) (b ∷ s) e = go (byte limit g b) (λ next. advance-answers limit (going next) s) e
-  where
-    go : (f : Next) → ((next : Going) → advance limit (going next) s .notice ≡ malformed → ⊥)
-        → proceed 1 f (λ next. advance limit (going next) s) .notice ≡ malformed → ⊥
-    go (onward next) more q = more next q
-    go (completes x next) more q = absurd-numbers (cc)
-    go (refuses n place) more q = absurd-numbers (cc)
 
 module _ (w : List ℕ) where
   unfit-state : (WellFormed w → ⊥) → fits pipeLimit (progressIn w) ≡ false
@@ -102,10 +62,11 @@ module _ (w : List ℕ) where
         go wanted is e = room-other words e
         go (complete x) is e = room-other words e
         go (refusal n place) is e =
-            let after : takeFrom w part .after ≡ refused n place = ap (λ (c : Call). c .after) (take-refusal pipeLimit (progressIn w) part n place is) in
+            let stands = refused-for-ever pipeLimit (omega arith) (progressIn w) part n place is .0 in
+            let after : takeFrom w part .after ≡ refused n place = ap (λ (c : Call). c .after) stands in
             refused-other n place (rw after at (take-fits pipeLimit (omega arith) (progressIn w) part f)) e
         go (over records) is e = room-other words e
-        go malformed is e = advance-answers pipeLimit (progressIn w) part (ap (λ (c : Call). c .notice) (sym (take-fit pipeLimit (progressIn w) part f)) ∙ is)
+        go malformed is e = subst (λ (notice : Notice). Stands notice (takeFrom w part)) is (take-stands pipeLimit (progressIn w) part f)
 
     pub take-malformed-exactly : takeAnswer (takeFrom w part) words ≡ answer 20 0 ↔ (WellFormed w → ⊥)
     take-malformed-exactly =
@@ -113,16 +74,21 @@ module _ (w : List ℕ) where
 
   end-other : WellFormed w → endAnswer (endFrom w) ≡ answer 20 0 → ⊥
   end-other h e =
-      let all = finish-fits pipeLimit (progressIn w) (well-formed-exactly w .1 h) in
-      go (close (progressIn w)) (all .2) (rw (all .1) at (all .0)) (rw (all .1) at e)
+      let fit = well-formed-exactly w .1 h in
+      go (close (progressIn w)) refl (close-fits (progressIn w) fit) (rw (ended-for-ever pipeLimit (progressIn w) fit .0) at e)
     where
-      never : (g : Going) (p : Phase) → cut g p ≡ going g → ⊥
-      never g (inHeader []) q = absurd-numbers (cc)
-      never g (inHeader (b ∷ t)) q = absurd-numbers (cc)
-      never g (inValue head hashing) q = absurd-numbers (cc)
+      cuts : (g next : Going) (p : Phase) → cut g p ≡ going next → ⊥
+      cuts g next (inHeader []) q = absurd-numbers (cc)
+      cuts g next (inHeader (b ∷ t)) q = absurd-numbers (cc)
+      cuts g next (inValue head hashing) q = absurd-numbers (cc)
 
-      go : (p : Progress) → close p ≡ p → fits pipeLimit p ≡ true → endAnswerBy (noticeOf p) ≡ answer 20 0 → ⊥
-      go (going g) q f e = never g (g .phase) q
+      closes : (p : Progress) (next : Going) → close p ≡ going next → ⊥
+      closes (going g) next q = cuts g next (g .phase) q
+      closes (refused n place) next q = absurd-numbers (cc)
+      closes (ended records) next q = absurd-numbers (cc)
+
+      go : (p : Progress) → close (progressIn w) ≡ p → fits pipeLimit p ≡ true → endAnswerBy (noticeOf p) ≡ answer 20 0 → ⊥
+      go (going g) q f e = closes (progressIn w) g q
       go (refused n place) q f e = refused-other n place f e
       go (ended records) q f e = omega arith
 

@@ -336,14 +336,6 @@ module _ (limit : ℕ) where
   pub take-stands : (p : Progress) (s : List ℕ) → fits limit p ≡ true → Stands (take limit p s .notice) (take limit p s)
   take-stands p s f = rw (take-fit limit p s f) (advance-stands p s)
 
-  -- nothing of the part is taken where it is refused, and the refusal is kept
-  pub take-refusal : (p : Progress) (s : List ℕ) (n place : ℕ) → take limit p s .notice ≡ refusal n place → take limit p s ≡ standing (refused n place)
-  take-refusal p s n place e = go (fits limit p) refl
-    where
-      go : (t : Bool) → fits limit p ≡ t → take limit p s ≡ standing (refused n place)
-      go true f = subst (λ (w : Notice). Stands w (take limit p s)) e (take-stands p s f)
-      go false f = absurd-numbers (let u = take-unfit limit p s f in cc)
-
   -- a verdict stays
   pub take-standing : (p : Progress) (s : List ℕ) → fits limit p ≡ true → close p ≡ p → take limit p s ≡ standing p
   unfolding take advance
@@ -380,11 +372,6 @@ module _ (limit : ℕ) where
   close-fits (refused n place) f = f
   close-fits (ended records) f = f
 
-  -- the announced end leaves a verdict that stays
-  pub finish-fits : (p : Progress) → fits limit p ≡ true → (fits limit (finish limit p .after) ≡ true) × (finish limit p ≡ standing (close p)) × (close (close p) ≡ close p)
-  unfolding finish
-  finish-fits p f = rw f (close-fits p f, refl, close-close p)
-
 -- every later call, of either kind, answers the same, takes nothing and leaves it as it is
 pub record ForEver (limit : ℕ) (p : Progress) : Type 0 where
   pub taking : (s : List ℕ) → take limit p s ≡ standing p
@@ -395,11 +382,9 @@ pub refused-for-ever : (limit : ℕ) → limit < 2 ^ 64 → (p : Progress) (s : 
     → (take limit p s ≡ standing (refused n place)) × ForEver limit (refused n place)
 refused-for-ever limit small p s n place e = go (fits limit p) refl
   where
-    it : take limit p s ≡ standing (refused n place)
-    it = take-refusal limit p s n place e
-
     go : (t : Bool) → fits limit p ≡ t → (take limit p s ≡ standing (refused n place)) × ForEver limit (refused n place)
     go true f =
+        let it : take limit p s ≡ standing (refused n place) = subst (λ (w : Notice). Stands w (take limit p s)) e (take-stands limit p s f) in
         let fit : fits limit (refused n place) ≡ true = subst (λ (c : Call). fits limit (c .after) ≡ true) it (take-fits limit small p s f) in (
           it,
           record {

@@ -1,4 +1,4 @@
--- `list_pack::put_hex` meets its contract. The number has at most so many digits, and is given as many.
+-- `entry_lines::put_hex` meets its contract. The number has at most so many digits, and is given as many.
 use borrow.Author.Needs.{needs}
 use mathlib.Core.List.{List}
 use mathlib.Core.Path.{_≡_, ap, subst, _∙_}
@@ -9,9 +9,9 @@ use lib.ListN.{take}
 use Rattle.io.specs.Digits.{digits, Fewest}
 use Rattle.console.specs.Put.{Next}
 use Rattle.console.specs.Text.{places-most}
-use Rattle.list_pack.specs.Text.{hex, hex-length}
-use Rattle.list_pack.proofs.put_hex.Statement.{statement}
-use Rattle.list_pack.proofs.put_hex.Tie as tie
+use Rattle.entry_lines.specs.Text.{hex, hex-length}
+use Rattle.entry_lines.proofs.put_hex.Statement.{statement}
+use Rattle.entry_lines.proofs.put_hex.Tie as tie
 
 hex-requires : tie.Need-hex-requires
 hex-requires c κs = search needs

@@ -1,11 +1,11 @@
--- `list_pack::put_front` meets its contract. Its parts, one after the other, are the front of a line, and each has room.
+-- `entry_lines::put_front` meets its contract. Its parts, one after the other, are the front of a line, and each has room.
 use borrow.Author.Needs.{needs}
 use native.Mathlib.Omega.{arith}
 use lib.Dec.{lit≤}
 use Rattle.console.proofs.Lines.{room-behind}
-use Rattle.list_pack.proofs.Lines.{front-put}
-use Rattle.list_pack.proofs.put_front.Statement.{statement}
-use Rattle.list_pack.proofs.put_front.Tie as tie
+use Rattle.entry_lines.proofs.Lines.{front-put}
+use Rattle.entry_lines.proofs.put_front.Statement.{statement}
+use Rattle.entry_lines.proofs.put_front.Tie as tie
 
 put-decimal-requires : tie.Need-put-decimal-requires
 put-decimal-requires c κs = search needs
