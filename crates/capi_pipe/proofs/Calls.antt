@@ -9,7 +9,7 @@ use lib.ListN.{length}
 use Rattle.slices.specs.Logic.{absurd-numbers}
 use Rattle.pipe.specs.Limit.{pipeLimit}
 use Rattle.pipe.specs.Taking.{Progress, going, refused, ended, Notice, refusal, over, malformed, Call, noticeOf, close, fits, unfit, take, finish}
-use Rattle.pipe.specs.Step.{standing, take-unfit, take-fits, refused-for-ever, ended-for-ever}
+use Rattle.pipe.specs.Step.{standing, take-unfit, take-fits, refused-for-ever, ended-for-ever, close-fits}
 use Rattle.pipe.specs.States.{progressOf, callOf}
 use Rattle.pipe.specs.States as pipe
 use Rattle.pipe.specs.declared.State.{State}
@@ -17,7 +17,7 @@ use Rattle.pipe.specs.declared.Event.{Event}
 use Rattle.pipe.specs.declared.Taken.{Taken}
 use Rattle.words.specs.Words.{answer, answer-whole}
 use Rattle.capi_pipe.specs.State.{stateIn, progressIn}
-use Rattle.capi_pipe.specs.WellFormed.{fits-refused, close-fits, fits-long}
+use Rattle.capi_pipe.specs.WellFormed.{fits-refused, fits-long}
 use Rattle.capi_pipe.specs.Answers.{Leaves, takeFrom, endFrom, takeAnswerBy, takeAnswer, takeStores, TakeLeaves, takeToldBy, takeTold, endAnswerBy, endAnswer, endStores, EndLeaves}
 
 -- ---- a state that fits
@@ -58,7 +58,7 @@ module _ (p : Progress) where
       → (fits pipeLimit (close p) ≡ true) × (noticeOf (close p) ≡ notice)
   finished-after notice is h =
       let fit = finished-fits notice is h in
-      (close-fits p fit, rw (ended-for-ever pipeLimit p fit .0) at is)
+      (close-fits pipeLimit p fit, rw (ended-for-ever pipeLimit p fit .0) at is)
 
   finished-within : (n place : ℕ) → finish pipeLimit p .notice ≡ refusal n place → place ≤ pipeLimit
   finished-within n place is = go (close p) (finished-after (refusal n place) is (λ z. absurd-numbers (cc)))

@@ -20,7 +20,7 @@ endFrom state = finish pipeLimit (progressIn state)
 
 -- ---- the state at exit
 
--- where nothing is stored they are as they were
+-- the words say the state that is stored; where none is, they are as they were
 abbrev pub Leaves : Bool → Progress → List ℕ → List ℕ → Type 0
 Leaves true p before after = Says p before after
 Leaves false p before after = after ≡ before
@@ -30,7 +30,7 @@ Leaves false p before after = after ≡ before
 abbrev pub hasRoom : ℕ → Bool
 hasRoom words = leb 6 words
 
--- what is told where there is room
+-- 19 where there is no room for what is told
 abbrev pub roomAnswer : ℕ → ℕ
 roomAnswer words = cond (hasRoom words) (answer 0 0) (answer 19 0)
 

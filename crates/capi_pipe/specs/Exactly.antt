@@ -10,10 +10,10 @@ use Rattle.slices.specs.Logic.{not-so, absurd-numbers}
 use Rattle.pipe.specs.Limit.{pipeLimit}
 use Rattle.pipe.specs.Taking.{Phase, inHeader, inValue, Going, Progress, going, refused, ended, atStart}
 use Rattle.pipe.specs.Taking.{Notice, wanted, complete, refusal, over, malformed, Call, cut, close, noticeOf, fits, finish}
-use Rattle.pipe.specs.Step.{Stands, take-unfit, take-fits, take-stands, refused-for-ever, ended-for-ever}
+use Rattle.pipe.specs.Step.{Stands, take-unfit, take-fits, take-stands, close-fits, refused-for-ever, ended-for-ever}
 use Rattle.words.specs.Words.{answer}
 use Rattle.capi_pipe.specs.State.{progressIn, Says}
-use Rattle.capi_pipe.specs.WellFormed.{fits-refused, close-fits, WellFormed, well-formed-exactly}
+use Rattle.capi_pipe.specs.WellFormed.{fits-refused, WellFormed, well-formed-exactly}
 use Rattle.capi_pipe.specs.Answers.{takeFrom, endFrom, roomAnswer, takeAnswerBy, takeAnswer, endAnswerBy, endAnswer}
 
 -- ---- what a call stores
@@ -32,7 +32,7 @@ module _ {w after : List ℕ} where
   pub end-stays : WellFormed w → Says (endFrom w .after) w after → WellFormed after
   end-stays h s =
       let fit = well-formed-exactly w .1 h in
-      stays (rw (ended-for-ever pipeLimit (progressIn w) fit .0) (close-fits (progressIn w) fit)) s
+      stays (rw (ended-for-ever pipeLimit (progressIn w) fit .0) (close-fits pipeLimit (progressIn w) fit)) s
 
 -- ---- 20
 
@@ -75,7 +75,7 @@ module _ (w : List ℕ) where
   end-other : WellFormed w → endAnswer (endFrom w) ≡ answer 20 0 → ⊥
   end-other h e =
       let fit = well-formed-exactly w .1 h in
-      go (close (progressIn w)) refl (close-fits (progressIn w) fit) (rw (ended-for-ever pipeLimit (progressIn w) fit .0) at e)
+      go (close (progressIn w)) refl (close-fits pipeLimit (progressIn w) fit) (rw (ended-for-ever pipeLimit (progressIn w) fit .0) at e)
     where
       cuts : (g next : Going) (p : Phase) → cut g p ≡ going next → ⊥
       cuts g next (inHeader []) q = absurd-numbers (cc)

@@ -9,14 +9,14 @@ use borrow.Author.Tests.{le-leb, lt-ltb, leb-true, ltb-true, eqb-true}
 use lib.Dec.{eqb, leb, ltb}
 use lib.ListN.{length, take, length-take}
 use lib.Seq.{length-take-le}
-use Rattle.slices.specs.Logic.{both, clash, absurd-numbers}
+use Rattle.slices.specs.Logic.{both, clash}
 use Rattle.tlv.specs.Found.{headerOf}
 use Rattle.xxh64.specs.Parts.{hashingOf}
 use Rattle.pipe.specs.Limit.{pipeLimit}
-use Rattle.pipe.specs.Taking.{inHeader, inValue, Progress, going, refused, ended, malformed, Call, close, noticeOf, fits}
+use Rattle.pipe.specs.Taking.{inHeader, inValue, refused, fits}
 use Rattle.pipe.specs.States.{recordAt}
 use Rattle.pipe.specs.States as pipe
-use Rattle.pipe.specs.Step.{RefusedFits, fits-going, take-unfit, ended-for-ever}
+use Rattle.pipe.specs.Step.{RefusedFits, fits-going}
 use Rattle.pipe.specs.declared.Phase.{Phase}
 use Rattle.pipe.specs.declared.Phase.the-variants.{Header, Value, Refused, Ended}
 use Rattle.capi_pipe.specs.Bytes.{length-unpacked}
@@ -29,21 +29,6 @@ fits-refused n place e =
     let a = both (leb 1 n) (leb n 8 && leb place pipeLimit) e in
     let b = both (leb n 8) (leb place pipeLimit) (a .1) in
     record { least = leb-true 1 n (a .0); most = leb-true n 8 (b .0); within = leb-true place pipeLimit (b .1) }
-
--- what the announced end leaves fits too
-pub close-fits : (p : Progress) → fits pipeLimit p ≡ true → fits pipeLimit (close p) ≡ true
-close-fits p f = go (fits pipeLimit (close p)) refl
-  where
-    never : (q : Progress) → noticeOf q ≡ malformed → ⊥
-    never (going g) e = absurd-numbers (cc)
-    never (refused n place) e = absurd-numbers (cc)
-    never (ended records) e = absurd-numbers (cc)
-
-    go : (t : Bool) → fits pipeLimit (close p) ≡ t → t ≡ true
-    go true e = refl
-    go false e =
-        let stands = ended-for-ever pipeLimit p f .1 .taking [] in
-        absurd (never (close p) (ap (λ (c : Call). c .notice) (sym stands ∙ take-unfit pipeLimit (close p) [] e)))
 
 -- there are enough, the first is the mark, and the second says the phase
 pub record Marked (w : List ℕ) (kind : ℕ) : Type 0 where

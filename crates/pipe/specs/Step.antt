@@ -367,7 +367,8 @@ module _ (limit : ℕ) where
   cut-fits g (inHeader (b ∷ t)) l m = refused-fits limit 2 (g .start) (record { least = omega arith; most = omega arith; within = l })
   cut-fits g (inValue head hashing) l m = refused-fits limit 7 (g .start) (record { least = omega arith; most = omega arith; within = l })
 
-  close-fits : (p : Progress) → fits limit p ≡ true → fits limit (close p) ≡ true
+  -- what the announced end leaves fits too
+  pub close-fits : (p : Progress) → fits limit p ≡ true → fits limit (close p) ≡ true
   close-fits (going g) f = let h = fits-going limit g f in cut-fits g (g .phase) (omega (arith, h .within)) (h .few)
   close-fits (refused n place) f = f
   close-fits (ended records) f = f
