@@ -7,7 +7,7 @@
    Each function but vof_version and vof_xxh64 answers number + 256 * word, which vof_number and
    vof_word take apart. The number is that of the refusal, or 0. The word is 0 where nothing else is
    said. "With the place" means that the word is where in the pack the record at fault starts. A
-   refusal writes nothing into lent memory.
+   refusal writes nothing into lent memory, but into the state of a pipe, which remembers it.
 
    The caller owes what C cannot test: memory of the length that is said, numbers aligned as
    uint64_t is, no memory lent for writing that overlaps other memory handed in, and no other thread
@@ -181,6 +181,87 @@ enum { VOF_EXPLAIN_START, VOF_EXPLAIN_REASON, VOF_EXPLAIN_PLACE, VOF_EXPLAIN_NUM
 uint64_t vof_explain(const uint8_t *pack, size_t pack_length, const uint8_t *bucket,
                      size_t bucket_length, const uint8_t *object, size_t object_length,
                      uint64_t *told, size_t told_length);
+
+/* ---- packs in parts
+
+   A pack that is too long for memory, or comes through a pipe, is handed over in parts of any
+   length, empty ones too: each begins where the bytes taken so far end. However it is cut, its
+   records and its refusal are those that vof_scan would tell of the whole, with VOF_PIPE_LIMIT for
+   4,294,967,295 bytes; but each record is told as it completes, so that those before a fault are told
+   too. */
+
+/* The longest pack that is taken in parts. */
+#define VOF_PIPE_LIMIT ((uint64_t)1 << 40)
+
+/* How many numbers the state of a pipe has: all that is kept between calls, however long the pack.
+   The caller lends it, and hands it over unchanged with the next part. It may be copied, and gone
+   on with twice.
+
+   0        the mark, 0x564F462050495045
+   1        0 in a header, 1 in a value, 2 refused, 3 ended
+   2        where the record that is taken now starts; the place, once refused
+   3        how many records are complete
+   4        the refusal's number
+   5        how many bytes of the header are held
+   6 to 9   the accumulators of the value's hash
+   10       how many bytes of the value were taken
+   11 to 14 the header's 32 bytes, eight in a number, the first of them highest
+   15 to 18 likewise the value's bytes since its last whole 32
+
+   It is well formed when number 0 is the mark and
+   - in a header, number 5 is below 32, numbers 2 and 5 add up to at most VOF_PIPE_LIMIT, and number
+     3 is at most number 2;
+   - in a value, number 10 is below number 12, which is the value's length, numbers 2 and 10 and 32
+     add up to at most VOF_PIPE_LIMIT, and number 3 is at most number 2;
+   - refused, number 4 is from 1 to 8, and number 2 at most VOF_PIPE_LIMIT;
+   - ended, number 3 is at most VOF_PIPE_LIMIT.
+   What is not named there may be anything. Calls leave well-formed states. Every other one gets
+   20, and every well-formed one its answer, whether or not a call has left it. */
+enum { VOF_PIPE_STATE = 19 };
+
+/* Begins a pack: `state` is then that before its first byte, and keeps the rest.
+   Refusal: 19 where `state` has fewer than VOF_PIPE_STATE numbers. */
+uint64_t vof_pipe_start(uint64_t *state, size_t state_length);
+
+/* What has happened after a call of vof_pipe_take. */
+enum {
+    /* All of the part was taken, and more is wanted, or the end. */
+    VOF_EVENT_WANTED,
+    /* A record is complete, with the last byte taken. The rest of the part is to be handed over
+       again. */
+    VOF_EVENT_COMPLETE,
+    /* The end was announced, and the pack is accepted. Nothing is taken. */
+    VOF_EVENT_ENDED
+};
+
+/* What vof_pipe_take tells: how many bytes it took, what has happened, and of a complete record what
+   vof_scan tells of it, else four zeros. */
+enum {
+    VOF_PIPE_TAKEN,
+    VOF_PIPE_EVENT,
+    VOF_PIPE_RECORD_START,
+    VOF_PIPE_RECORD_TAG,
+    VOF_PIPE_VALUE_LENGTH,
+    VOF_PIPE_VALUE_HASH,
+    VOF_PIPE_NUMBERS
+};
+
+/* Takes a part of a pack, up to the byte that completes a record.
+   `told` then has VOF_PIPE_NUMBERS numbers, and keeps the rest.
+   Refusals: 20 where `state` is too short or not well formed; 1 where a byte past VOF_PIPE_LIMIT would
+   be taken, 3 to 6 once the header is whole, 8 once the value is, all with the place; after the
+   end 2 and 7 too; then 19 where `told` is too short, which leaves `state` as it was. 1 to 8 take
+   nothing of the part, are remembered in `state` even where `told` is too short, and are given again
+   at every later call. */
+uint64_t vof_pipe_take(uint64_t *state, size_t state_length, const uint8_t *part,
+                       size_t part_length, uint64_t *told, size_t told_length);
+
+/* Announces the end of the pack.
+   Word: how many records it has.
+   Refusals: 20 where `state` is too short or not well formed; 1 to 8, with the place: 2 where the
+   last header is not whole, 7 where the last value is not. The answer is given again at every later
+   call. */
+uint64_t vof_pipe_end(uint64_t *state, size_t state_length);
 
 /* ---- pack lists
 

@@ -11,6 +11,12 @@
     else:
         print(vof.record(pack, version.start).identifier)
 
+A pack too long for memory comes in parts, through a Pipe:
+
+    with open("samples/herd.pack", "rb") as file:
+        for entry in vof.stream(file):
+            print(entry.start, entry.tag)
+
 What is refused raises Refusal; docs/REFUSALS.md says what each number means and what to do.
 
 Packs, values and parts are bytes, or anything else that lends its memory, as a bytearray or an
@@ -44,7 +50,7 @@ class Refusal(Exception):
 
 
 class Entry(NamedTuple):
-    """A record as a scan lists it."""
+    """A record as a scan lists it, and a pipe."""
 
     start: int
     tag: bytes
@@ -163,6 +169,9 @@ _FUNCTIONS = {
     "vof_value": _READ + _TOLD,
     "vof_current": _READ * 3 + _TOLD + [_BYTES, _SIZE],
     "vof_explain": _READ * 3 + _TOLD,
+    "vof_pipe_start": _TOLD,
+    "vof_pipe_take": _TOLD + _READ + _TOLD,
+    "vof_pipe_end": _TOLD,
     "vof_pack_list": _READ + _TOLD,
     "vof_find_block": _READ + [_NUMBER] + _TOLD,
     "vof_write_block": _WRITE + _READ * 2,
@@ -241,6 +250,13 @@ def _lent(data):
             return _writable(view)
         data = bytes(view)
     return data, len(data)
+
+
+def _address(memory):
+    """Where lent memory starts. (ctypes.cast would keep it until garbage is collected.)"""
+    if isinstance(memory, bytes):
+        return ctypes.c_void_p.from_buffer(ctypes.c_char_p(memory)).value
+    return ctypes.addressof(memory)
 
 
 def _apart(data):
@@ -363,6 +379,87 @@ def explain(pack, bucket, object):
         Line(start, _REASONS[reason], place)
         for start, reason, place in _rows(3, pack, _OF_LOOKUP, _library.vof_explain, *names)
     ]
+
+
+# ---- packs in parts
+
+
+class Pipe:
+    """A pack of at most 2^40 bytes that comes in parts, of any length, empty ones too.
+
+    However it is cut, its records and its refusal are those that scan would give of the whole, with
+    this limit for its own; but those before a fault are told too. What is kept between parts has
+    one size.
+
+        pipe = vof.Pipe()
+        while part := connection.recv(65536):
+            for entry in pipe.feed(part):
+                print(entry.start, entry.tag)
+        print(pipe.end(), "records")
+    """
+
+    def __init__(self):
+        self._state = _numbers(19)
+        _library.vof_pipe_start(self._state, 19)
+
+    def copy(self):
+        """A pipe that goes on from here by itself."""
+        pipe = Pipe()
+        pipe._state[:] = self._state[:]
+        return pipe
+
+    __copy__ = copy
+
+    def _take(self, data):
+        """The records that complete in the data, and the answer to the last call."""
+        entries, told = [], _numbers(6)
+        memory, left = _lent(data)
+        at = _address(memory)
+        while True:
+            answer = _library.vof_pipe_take(self._state, 19, at, left, told, 6)
+            if answer:
+                return entries, answer
+            taken, is_complete, start, tag, length, hash = told
+            if is_complete:
+                entries.append(Entry(start, _tag(tag), length, hash))
+            at, left = at + taken, left - taken
+            if not left:
+                return entries, 0
+
+    def feed(self, data):
+        """Takes the next bytes of the pack, and gives an iterator over an Entry for each record
+        that completes in them. Refusals, after these and again at every later call: 1 past the
+        limit, 3 to 6 once a header is whole, 8 once a value is. After the end nothing may be
+        fed."""
+        if self._state[1] == 3:
+            raise ValueError("vof: the end of the pack was announced")
+
+        def told(entries, answer):
+            yield from entries
+            _word(answer)
+
+        return told(*self._take(data))
+
+    def end(self):
+        """Announces the end of the pack, and gives the number of its records. Refusals 1 to 8: 2
+        where the last header is not whole, 7 where the last value is not. So too when called
+        again."""
+        return _word(_library.vof_pipe_end(self._state, 19))
+
+
+def stream(source):
+    """An iterator over an Entry for each record of a pack, as it completes, that is read from a
+    socket or a binary file up to its end. Refusals 1 to 8, after the records before the fault. The
+    source must wait where there are no bytes yet."""
+    pipe = Pipe()
+    # Fewer bytes than asked for will do: the others may be long in coming.
+    read = getattr(source, "recv", None) or getattr(source, "read1", None) or source.read
+    while (part := read(65536)) != b"":
+        yield from pipe.feed(part)
+    pipe.end()
+
+
+# ---- pack lists
 
 
 def _ulid(primary, start):

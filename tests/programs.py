@@ -1,4 +1,5 @@
-"""Runs a built program and compares all that it prints, for tests/listing and tests/why."""
+"""Runs a built program and compares all that it prints, for tests/listing, tests/stream and
+tests/why."""
 import argparse
 import os
 import socket
@@ -14,6 +15,16 @@ LIMIT = 65536
 
 def refused(number, place):
     return "refused %d at %d\n" % (number, place)
+
+
+def broken(data):
+    """A socket whose other end goes and leaves what it was sent: behind the data one read fails,
+    then it ends."""
+    ours, theirs = socket.socketpair()
+    theirs.sendall(b"never read")
+    ours.sendall(data)
+    ours.close()
+    return theirs
 
 
 class Program:
@@ -80,15 +91,17 @@ class Program:
             pass
         self.compare(name, wanted, self.finish(process))
 
-    def unread(self, name, process):
-        """A read that fails is no pack: nothing on standard output, one line on standard error."""
+    def unread(self, name, process, wanted=""):
+        """A read that fails is no pack: nothing more on standard output, one line on standard
+        error."""
         out, err, status = self.finish(process)
         told = "printed %r, standard error %r, status %d" % (out, err, status)
-        right = out == "" and err.count("\n") == 1 and err[-1] == "\n" and status >= 0
+        right = out == wanted and err.count("\n") == 1 and err[-1] == "\n" and status >= 0
         self.check(name, right, told)
 
-    def failed_reads(self, record, *arguments):
-        """Standard input that cannot be read, at once or within these bytes of a record."""
+    def failed_reads(self, record, *arguments, line=""):
+        """Standard input that cannot be read, at once or within these bytes of a record, for which
+        the program may have printed a line."""
         closed = self.start(None, *arguments, preexec_fn=lambda: os.close(0))
         self.unread("standard input closed", closed)
         folder = os.open(ROOT, os.O_RDONLY)
@@ -97,15 +110,13 @@ class Program:
         unwanted = os.open(os.devnull, os.O_WRONLY)
         self.unread("standard input is for writing only", self.start(unwanted, *arguments))
         os.close(unwanted)
-        for name, data in [("at once", b""), ("after a record", record), ("in it", record[:40])]:
-            # A socket whose other end goes and leaves what it was sent: one read fails, then it
-            # ends.
-            ours, theirs = socket.socketpair()
-            theirs.sendall(b"never read")
-            ours.sendall(data)
-            ours.close()
-            self.unread("reading breaks off " + name, self.start(theirs, *arguments))
-            theirs.close()
+        for name, data, wanted in [
+            ("at once", b"", ""),
+            ("in a record", record[:40], ""),
+            ("after it", record, line),
+        ]:
+            with broken(data) as stdin:
+                self.unread("reading breaks off " + name, self.start(stdin, *arguments), wanted)
 
     def sample(self, name):
         """A pack of samples/, which the script there makes."""

@@ -1,5 +1,7 @@
 //! One call of the archive beside the plain implementation: the answer, and all of the lent memory.
 
+mod pipe;
+
 use crate::plain::lookup::{current, explain, Version};
 use crate::plain::pack::read_pack;
 use crate::plain::pack_list::{self, find, read_pack_list, PackList};
@@ -71,6 +73,9 @@ pub enum Function {
     Record,
     Current,
     Explain,
+    PipeStart,
+    PipeTake,
+    PipeEnd,
     PackList,
     FindBlock,
     WriteBlock,
@@ -81,7 +86,7 @@ pub enum Function {
 }
 
 /// The numbers that each function can answer, 0 where it does not refuse.
-const NUMBERS: [(Function, &[usize]); 13] = [
+const NUMBERS: [(Function, &[usize]); 16] = [
     (Function::Scan, &[0, 1, 2, 3, 4, 5, 6, 7, 8, 19]),
     (Function::FindHash, &[0, 20]),
     (Function::Value, &[0, 9, 10, 11, 12, 19, 22]),
@@ -103,6 +108,9 @@ const NUMBERS: [(Function, &[usize]); 13] = [
             0, 1, 2, 3, 4, 5, 6, 7, 8, 9, 10, 11, 12, 14, 15, 16, 17, 18, 19, 20, 22,
         ],
     ),
+    (Function::PipeStart, &[0, 19]),
+    (Function::PipeTake, &[0, 1, 2, 3, 4, 5, 6, 7, 8, 19, 20]),
+    (Function::PipeEnd, &[0, 1, 2, 3, 4, 5, 6, 7, 8, 20]),
     (Function::PackList, &[0, 16, 17, 18, 19, 21, 22]),
     (Function::FindBlock, &[0, 16, 17, 18, 19, 21, 22]),
     (Function::WriteBlock, &[0, 19, 20]),

@@ -55,9 +55,21 @@ pub fn put_refusal_alone(out: &mut [u8], number: u8) -> usize
 
 // ---- standard input
 
-enum Read {
+pub enum Read {
+    // So many bytes, at the front of the buffer; none where the input has ended.
     Bytes(usize),
     Failed,
+}
+
+// Reads once: what there is by now, as far as the buffer holds it.
+pub fn read_part(buffer: &mut [u8]) -> Read
+    ensures { λ r. ⌜ Within r (now (buffer .exit)) ⌝ }
+{
+    let got = libc::read(STDIN_FILENO, buffer);
+    if got < 0 {
+        return Read::Failed;
+    }
+    Read::Bytes(io::count(got, buffer))
 }
 
 // Reads until the buffer is full or the input ends: a read may give fewer bytes than there are.
@@ -66,11 +78,9 @@ fn fill(buffer: &mut [u8]) -> Read
 {
     let mut n: usize = 0;
     while n < buffer.len() {
-        let got = libc::read(STDIN_FILENO, &mut buffer[n..]);
-        if got < 0 {
+        let Read::Bytes(more) = read_part(&mut buffer[n..]) else {
             return Read::Failed;
-        }
-        let more = io::count(got, &buffer[n..]);
+        };
         if more == 0 {
             return Read::Bytes(n);
         }

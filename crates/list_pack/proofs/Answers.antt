@@ -17,7 +17,8 @@ use Rattle.pack.specs.Acceptance.{accepted-count}
 use Rattle.list_pack.specs.Listing.{noEntries}
 use Rattle.console.specs.Put.{Put, PutWithRoom, put-then}
 use Rattle.console.specs.Text.{refusalLine, refusal-length}
-use Rattle.list_pack.specs.Text.{lines, countLine, text, count-length}
+use Rattle.entry_lines.specs.Text.{lines, countLine, count-length}
+use Rattle.list_pack.specs.Text.{text}
 
 -- ---- the answers are told apart
 
@@ -100,9 +101,10 @@ module _ (r : Reading) (n : ℕ) (f : Filled r n) where
   text-is : lines (take n (listAfter r noEntries)) ++ countLine n ≡ text r
   text-is = rw (taken, f .accepted, f .count)
 
-  pub listing-put : {s0 s1 s2 : List ℕ} {at next : ℕ} → 133120 ≤ length s0 → at ≤ 131072 → Put s0 0 (lines (take n (listAfter r noEntries))) s1 at → Put s1 at (countLine n) s2 next → Put s0 0 (text r) s2 next × (next ≤ 133120)
-  listing-put {s0} {s1} {s2} {at} {next} room l p q =
+  pub listing-put : {s0 s1 s2 : List ℕ} {at next : ℕ} → 133120 ≤ length s0 → at ≤ 131072 → Put s0 0 (lines (take n (listAfter r noEntries))) s1 at → length s1 ≡ length s0 → PutWithRoom 29 s1 at (countLine n) s2 next → Put s0 0 (text r) s2 next × (next ≤ 133120)
+  listing-put {s0} {s1} {s2} {at} {next} room l p same with-room =
       let c = count-length n in
+      let q = with-room .fits (omega arith) in
       (subst (λ (t : List ℕ). Put s0 0 t s2 next) text-is (put-then (omega (arith, p .place)) p q), omega (arith, q .place))
 
 pub refusal-put : (r : Reading) (n p : ℕ) {s0 s2 : List ℕ} {next : ℕ} → 133120 ≤ length s0 → r .ending ≡ refused n p → PutWithRoom 53 s0 0 (refusalLine n p) s2 next

@@ -1,66 +1,22 @@
 // Lists a pack that it reads from standard input.
 ghost use mathlib.Core.Path.{_≡_};
-ghost use Prim.Native.Nat.{_+_, _^_, _≤_, _<_};
+ghost use Prim.Native.Nat.{_≤_};
 ghost use lib.ListN.{length, take};
 ghost use Rattle.refusals.specs.Limit.{packLimit};
 ghost use Rattle.pack.specs.Reading.{reading};
 ghost use Rattle.pack.specs.Scan.{scannedOf, scanned, listAfter};
 ghost use Rattle.console.specs.Put.{Put};
-ghost use Rattle.list_pack.specs.Text.{hex, front, line, lines, countLine, text};
+ghost use Rattle.entry_lines.specs.Text.{lines};
+ghost use Rattle.list_pack.specs.Text.{text};
 ghost use Rattle.list_pack.specs.Listing.{noEntries};
 use console::Input;
-use console::put;
-use console::put_decimal;
 use console::put_refusal;
+use entry_lines::put_count;
+use entry_lines::put_line;
 use libc::STDERR_FILENO;
 use libc::STDOUT_FILENO;
 use pack::Entry;
 use pack::Scanned;
-
-// Each of the functions below writes at a place of a buffer that has room, and answers the place
-// after what it wrote.
-fn put_hex(out: &mut [u8], at: usize, n: u64, width: usize) -> usize
-    requires { ⌜ ((1 ≤ width) × (width ≤ 16)) × ((n < 16 ^ width) × (at + width ≤ length (now out))) ⌝ }
-    ensures { λ r. ⌜ Put (now (out .entry)) at (hex width n) (now (out .exit)) r ⌝ }
-{
-    let mut digits = [0u8; 16];
-    let k = io::hex(n, width, &mut digits);
-    put(out, at, &digits[..k])
-}
-
-// Start, tag and length, a space behind each: at most 47 bytes.
-fn put_front(out: &mut [u8], at: usize, e: Entry) -> usize
-    requires { ⌜ at + 47 ≤ length (now out) ⌝ }
-    ensures { λ r. ⌜ Put (now (out .entry)) at (front e) (now (out .exit)) r ⌝ }
-{
-    let start = put_decimal(out, at, e.start as u64);
-    let before = put(out, start, b" ");
-    let tag = put_hex(out, before, e.tag as u64, 4);
-    let after = put(out, tag, b" ");
-    let length = put_decimal(out, after, e.length);
-    put(out, length, b" ")
-}
-
-// A line has at most 64 bytes.
-fn put_line(out: &mut [u8], at: usize, e: Entry) -> usize
-    requires { ⌜ at + 64 ≤ length (now out) ⌝ }
-    ensures { λ r. ⌜ Put (now (out .entry)) at (line e) (now (out .exit)) r ⌝ }
-{
-    let front = put_front(out, at, e);
-    let hash = put_hex(out, front, e.hash, 16);
-    put(out, hash, b"\n")
-}
-
-fn put_count(out: &mut [u8], at: usize, n: usize) -> usize
-    requires { ⌜ at + 29 ≤ length (now out) ⌝ }
-    ensures { λ r. ⌜ Put (now (out .entry)) at (countLine n) (now (out .exit)) r ⌝ }
-{
-    let word = put(out, at, b"records ");
-    let count = put_decimal(out, word, n as u64);
-    put(out, count, b"\n")
-}
-
-// ---- the records of the pack
 
 // How a scan ended, and the list that was lent to it.
 pub struct Listing {

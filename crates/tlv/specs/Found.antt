@@ -105,7 +105,7 @@ pub found-unless : (o : Option ℕ) (g h : RecordHeader) → foundUnless o g ≡
 found-unless none g h e = (refl, cc)
 found-unless (some n) g h e = absurd (let z : _≡_ {A = ℕ} 0 1 = cc in omega arith)
 
-fault-unless : (o : Option ℕ) (g : RecordHeader) (n : ℕ) → foundUnless o g ≡ fault n → o ≡ some n
+pub fault-unless : (o : Option ℕ) (g : RecordHeader) (n : ℕ) → foundUnless o g ≡ fault n → o ≡ some n
 fault-unless none g n e = absurd (let z : _≡_ {A = ℕ} 0 1 = cc in omega arith)
 fault-unless (some m) g n e = cc
 

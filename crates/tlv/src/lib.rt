@@ -42,7 +42,7 @@ pub struct RecordHeader {
     pub hash: u64,
 }
 
-enum HeaderRead {
+pub enum HeaderRead {
     Header(RecordHeader),
     Fault(Fault),
 }
@@ -76,7 +76,7 @@ impl RecordHeader {
     pub const MAGIC: u64 = 0x89544C560D0A1A0A;
 
     // The header at the front of what is left. Its tests come in the order of their numbers.
-    fn read(s: &[u8]) -> HeaderRead
+    pub fn read(s: &[u8]) -> HeaderRead
         ensures { λ r. ⌜ foundHeader r ≡ header (now (s .entry)) ⌝ }
     {
         if s.len() < RecordHeader::LENGTH {

@@ -11,6 +11,7 @@ use lib.ListN.{length, take, drop, length-append, length-drop, take-append-drop}
 use lib.Seq.{append-snoc, drop-drop, take-add}
 use Rattle.slices.specs.Lists.{part-length, part-of-part}
 use Rattle.endian.specs.Numbers.{little}
+use Rattle.xxh64.specs.declared.State.{State}
 use Rattle.xxh64.specs.Xxh64.{prime1, prime2, prime5, add, lane, taken, round, converge, stripes, consume, avalanche, xxh64}
 
 pub record Hashing : Type 0 where
@@ -67,12 +68,19 @@ finish acc n s =
 unfoldable pub finished : Hashing → ℕ
 finished h = finish (cond (ltb (h .count) 32) prime5 (converge (h .acc1) (h .acc2) (h .acc3) (h .acc4))) (h .count) (h .held)
 
+-- what the code keeps: the bytes held are the front of an array
+unfoldable pub hashingOf : State → Hashing
+hashingOf t = record { acc1 = t .acc1; acc2 = t .acc2; acc3 = t .acc3; acc4 = t .acc4; held = take (t .count % 32) (t .held); count = t .count }
+
 -- ---- some bytes and then others are both
 
 pub pushed-append : (h : Hashing) (s t : List ℕ) → pushed h (s ++ t) ≡ pushed (pushed h s) t
 unfolding pushed
 pushed-append h [] t = refl
 pushed-append h (b ∷ s) t = pushed-append (push h b) s t
+
+pub pushed-cut : (h : Hashing) (s : List ℕ) (n : ℕ) → pushed (pushed h (take n s)) (drop n s) ≡ pushed h s
+pushed-cut h s n = sym (pushed-append h (take n s) (drop n s)) ∙ ap (pushed h) (take-append-drop n s)
 
 -- ---- many bytes at once
 
@@ -223,8 +231,7 @@ hash-in-parts s l =
     let g = striped fresh s m (add 0 (32 * m)) in
     let n : add (add 0 (32 * m)) (length (drop k s)) ≡ length s = omega (arith, length-drop k s) in
     ap finished
-    (ap (pushed fresh) (sym (take-append-drop k s))
-    ∙ pushed-append fresh (take k s) (drop k s)
+    (sym (pushed-cut fresh s k)
     ∙ ap (λ i. pushed (pushed fresh (take i s)) (drop k s)) (sym e)
     ∙ ap (λ f. pushed f (drop k s)) (pushed-stripes fresh s m refl (omega arith) (omega arith))
     ∙ pushed-held g (drop k s) (omega arith) (omega (arith, length-drop k s))

@@ -1,9 +1,9 @@
 // XXH64 with seed 0, in the steps and names of the xxHash specification.
 ghost use mathlib.Core.Path.{_≡_};
-ghost use Prim.Native.Nat.{_+_, _*_, _≤_, _<_};
-ghost use lib.ListN.{length};
+ghost use Prim.Native.Nat.{_+_, _*_, _%_, _≤_, _<_};
+ghost use lib.ListN.{length, take};
 ghost use Rattle.xxh64.specs.Xxh64.{mul, rotl, lane, taken, round, mergeAccumulator, converge, consume8, consume4, consume1, consume, avalanche, xxh64};
-ghost use Rattle.xxh64.specs.Parts.{fresh, finish};
+ghost use Rattle.xxh64.specs.Parts.{fresh, pushed, finish, finished, hashingOf};
 use endian::Number;
 use std::num::wrapping_add_u64;
 
@@ -207,4 +207,125 @@ pub fn xxh64(s: &[u8]) -> u64
     let k = n / 32;
     let acc = converge(stripes(fresh(), all, k));
     finish(acc, n as u64, &s[32 * k..])
+}
+
+// ---- bytes that come in parts
+
+// What is kept between the parts. The first count % 32 bytes of held are those of a stripe that is
+// not whole yet; count is how many bytes were taken, modulo 2^64.
+pub struct State {
+    pub acc1: u64,
+    pub acc2: u64,
+    pub acc3: u64,
+    pub acc4: u64,
+    pub held: [u8; 32],
+    pub count: u64,
+}
+
+impl State {
+    pub fn new() -> State
+        ensures { λ r. ⌜ hashingOf r ≡ fresh ⌝ }
+    {
+        let acc = fresh();
+        let held = [0u8; 32];
+        State {
+            acc1: acc.acc1,
+            acc2: acc.acc2,
+            acc3: acc.acc3,
+            acc4: acc.acc4,
+            held,
+            count: 0,
+        }
+    }
+
+    fn accumulators(self) -> Accumulators
+        ensures { λ r. ⌜ (r .acc1 ≡ self .acc1) × (r .acc2 ≡ self .acc2) × (r .acc3 ≡ self .acc3) × (r .acc4 ≡ self .acc4) ⌝ }
+    {
+        Accumulators {
+            acc1: self.acc1,
+            acc2: self.acc2,
+            acc3: self.acc3,
+            acc4: self.acc4,
+        }
+    }
+
+    // Bytes that leave the stripe short.
+    fn hold(self, s: &[u8]) -> State
+        requires { ⌜ self .count % 32 + length (now s) < 32 ⌝ }
+        ensures { λ r. ⌜ hashingOf r ≡ pushed (hashingOf self) (now (s .entry)) ⌝ }
+    {
+        let at = (self.count % 32) as usize;
+        let mut held = self.held;
+        let _ = slices::write_bytes(&mut held, at, s);
+        State {
+            acc1: self.acc1,
+            acc2: self.acc2,
+            acc3: self.acc3,
+            acc4: self.acc4,
+            held,
+            count: wrapping_add_u64(self.count, s.len() as u64),
+        }
+    }
+
+    // Bytes that make it whole.
+    fn fill(self, s: &[u8]) -> State
+        requires { ⌜ self .count % 32 + length (now s) ≡ 32 ⌝ }
+        ensures { λ r. ⌜ hashingOf r ≡ pushed (hashingOf self) (now (s .entry)) ⌝ }
+    {
+        let at = (self.count % 32) as usize;
+        let mut held = self.held;
+        let _ = slices::write_bytes(&mut held, at, s);
+        // Not by `stripe`: LLVM would no longer inline it in the loop of `stripes`.
+        let acc = stripes(self.accumulators(), &held, 1);
+        State {
+            acc1: acc.acc1,
+            acc2: acc.acc2,
+            acc3: acc.acc3,
+            acc4: acc.acc4,
+            held,
+            count: wrapping_add_u64(self.count, s.len() as u64),
+        }
+    }
+
+    // The first n stripes of s, where none is begun.
+    fn take_stripes(self, s: &[u8], n: usize) -> State
+        requires { ⌜ (self .count % 32 ≡ 0) × (32 * n ≤ length (now s)) ⌝ }
+        ensures { λ r. ⌜ hashingOf r ≡ pushed (hashingOf self) (take (32 * n) (now (s .entry))) ⌝ }
+    {
+        let acc = stripes(self.accumulators(), s, n);
+        let held = self.held;
+        State {
+            acc1: acc.acc1,
+            acc2: acc.acc2,
+            acc3: acc.acc3,
+            acc4: acc.acc4,
+            held,
+            count: wrapping_add_u64(self.count, (32 * n) as u64),
+        }
+    }
+
+    pub fn update(self, s: &[u8]) -> State
+        ensures { λ r. ⌜ hashingOf r ≡ pushed (hashingOf self) (now (s .entry)) ⌝ }
+    {
+        let left = 32 - (self.count % 32) as usize;
+        if s.len() < left {
+            return self.hold(s);
+        }
+        let whole = self.fill(&s[..left]);
+        let rest = &s[left..];
+        let n = rest.len() / 32;
+        let striped = whole.take_stripes(rest, n);
+        striped.hold(&rest[32 * n..])
+    }
+
+    pub fn finish(self) -> u64
+        ensures { λ r. ⌜ r ≡ finished (hashingOf self) ⌝ }
+    {
+        let n = (self.count % 32) as usize;
+        let held = self.held;
+        if self.count < 32 {
+            return finish(PRIME5, self.count, &held[..n]);
+        }
+        finish(converge(self.accumulators()), self.count, &held[..n])
+    }
 }

@@ -2,7 +2,8 @@
 //!
 //! Every input has an answer: a result, or a [`Refusal`] whose number docs/REFUSALS.md explains. Nothing
 //! is copied but identifiers: parts of a record are handed back as parts of the pack. A refusal leaves
-//! lent memory as it was, and what lies behind a result keeps its content.
+//! lent memory as it was, and what lies behind a result keeps its content. A pack too long for memory is
+//! handed over in parts, to a [`Pipe`].
 //!
 //! The build links the archive that the environment variable VOF_LIBRARY names by its absolute path, else
 //! this repository's target/staticlib/libvof.a, which `bin/archive` writes. It refuses an archive that has
@@ -38,6 +39,8 @@ pub const VERSION_DELETE: u64 = 0x7664;
 pub const PACK_LIST: u64 = 0x6F6C;
 /// The longest composite text, `ULID:bucket/object`.
 pub const IDENTIFIER_LIMIT: usize = 1115;
+/// The longest pack that comes in parts.
+pub const PIPE_LIMIT: u64 = 1 << 40;
 /// The bytes of a record before its value.
 pub const HEADER: usize = 32;
 /// The characters of a ULID.
@@ -240,6 +243,106 @@ pub fn find_hash(entries: &[Entry], hash: u64) -> Result<Option<usize>, Refusal>
     let told = unsafe { std::slice::from_raw_parts(entries.as_ptr().cast(), length) };
     let found = word(raw::find_hash(told, hash), |_| false)?;
     Ok(found.checked_sub(1).map(|place| place as usize))
+}
+
+/// A pack of at most [`PIPE_LIMIT`] bytes that comes in parts.
+///
+/// However it is cut, its records and its refusal are those that [`scan`] would tell of the whole, with this
+/// limit for its own; but each record is told as it completes, so that those before a fault are told too. A
+/// refusal takes nothing of its part, and is given again at every later call. What is kept between parts has
+/// one size. A pipe may be cloned, and gone on with twice.
+///
+/// ```
+/// let mut buffer = [0; 256];
+/// let first = vof::write_block(&mut buffer, 0, b"00000000000000000000000001:herd/k", b"abc")?;
+/// let used = vof::write_block(&mut buffer, first, b"00000000000000000000000002:herd/k", b"de")?;
+///
+/// let (mut pipe, mut starts) = (vof::Pipe::new(), Vec::new());
+/// for part in buffer[..used].chunks(50) {
+///     for record in pipe.feed(part) {
+///         starts.push(record?.start as usize);
+///     }
+/// }
+/// assert_eq!(starts, [0, first]);
+/// assert_eq!(pipe.clone().end()?, 2);
+///
+/// pipe.feed(b"more").for_each(drop);
+/// assert_eq!(pipe.end().unwrap_err().to_string(), format!("refused 2 at {used}"));
+/// # Ok::<(), vof::Refusal>(())
+/// ```
+#[derive(Clone, Debug)]
+pub struct Pipe {
+    state: [u64; raw::PIPE_STATE],
+}
+
+impl Pipe {
+    /// Before the first byte of a pack.
+    pub fn new() -> Pipe {
+        let mut state = [0; raw::PIPE_STATE];
+        // It has so many numbers, and then nothing is refused.
+        raw::pipe_start(&mut state);
+        Pipe { state }
+    }
+
+    /// Takes a part up to the byte that completes a record: how many bytes were taken, and that record. Where
+    /// there is none the whole part was taken.
+    ///
+    /// Refused with 1 where a byte past [`PIPE_LIMIT`] would be taken, with 3 to 6 once a header is whole, with
+    /// 8 once a value is, all with a place.
+    pub fn take(&mut self, part: &[u8]) -> Result<(usize, Option<Entry>), Refusal> {
+        let mut told = [0; 6];
+        word(raw::pipe_take(&mut self.state, part, &mut told), of_pack)?;
+        let [taken, event, start, tag, length, hash] = told;
+        let record = Entry {
+            start,
+            tag,
+            length,
+            hash,
+        };
+        Ok((taken as usize, (event == 1).then_some(record)))
+    }
+
+    /// The records that complete in a part, which is taken as far as they are asked for; a refusal is the last
+    /// item.
+    pub fn feed<'a>(&'a mut self, part: &'a [u8]) -> Records<'a> {
+        Records { pipe: self, part }
+    }
+
+    /// How many records the pack has, of which this is the end.
+    ///
+    /// Refused with 2 where the last header is not whole, with 7 where the last value is not, or again as
+    /// before.
+    pub fn end(mut self) -> Result<u64, Refusal> {
+        word(raw::pipe_end(&mut self.state), of_pack)
+    }
+}
+
+impl Default for Pipe {
+    fn default() -> Pipe {
+        Pipe::new()
+    }
+}
+
+/// What [`Pipe::feed`] gives.
+#[derive(Debug)]
+#[must_use = "a part is taken as far as its records are asked for"]
+pub struct Records<'a> {
+    pipe: &'a mut Pipe,
+    part: &'a [u8],
+}
+
+impl Iterator for Records<'_> {
+    type Item = Result<Entry, Refusal>;
+
+    fn next(&mut self) -> Option<Result<Entry, Refusal>> {
+        if self.part.is_empty() {
+            return None;
+        }
+        let taken = self.pipe.take(self.part);
+        let rest = taken.map_or(self.part.len(), |(count, _)| count);
+        self.part = &self.part[rest..];
+        taken.map(|(_, record)| record).transpose()
+    }
 }
 
 /// The record at a place of a pack; `identifier` gets its composite text.

@@ -2,7 +2,8 @@
 //!
 //! Each answers `number + 256 * word`: the number of a refusal or 0, and a word that the function's
 //! comment names. Lent memory past what a comment names keeps its content; a refusal leaves all of it
-//! as it was. The functions of the crate's root are easier to use.
+//! as it was, but for the state of a pipe, which remembers it. The functions of the crate's root are
+//! easier to use.
 
 extern "C" {
     fn vof_version() -> u64;
@@ -41,6 +42,16 @@ extern "C" {
         told: *mut u64,
         told_length: usize,
     ) -> u64;
+    fn vof_pipe_start(state: *mut u64, state_length: usize) -> u64;
+    fn vof_pipe_take(
+        state: *mut u64,
+        state_length: usize,
+        part: *const u8,
+        part_length: usize,
+        told: *mut u64,
+        told_length: usize,
+    ) -> u64;
+    fn vof_pipe_end(state: *mut u64, state_length: usize) -> u64;
     fn vof_pack_list(primary: *const u8, length: usize, told: *mut u64, told_length: usize) -> u64;
     fn vof_find_block(
         primary: *const u8,
@@ -180,6 +191,35 @@ pub fn explain(pack: &[u8], bucket: &[u8], object: &[u8], told: &mut [u64]) -> u
             told.len(),
         )
     }
+}
+
+/// How many numbers the state of a pipe has; include/vof.h says which states are well formed.
+pub const PIPE_STATE: usize = 19;
+
+/// The state is then that before a pack's first byte.
+pub fn pipe_start(state: &mut [u64]) -> u64 {
+    unsafe { vof_pipe_start(state.as_mut_ptr(), state.len()) }
+}
+
+/// Word: the place of refusals 1 to 8, which the state remembers. Told are 6 numbers: how many bytes of
+/// the part were taken; 0 where more is wanted, 1 a record is complete, 2 the pack has ended; of that
+/// record start, tag, value length, value hash, else zeros.
+pub fn pipe_take(state: &mut [u64], part: &[u8], told: &mut [u64]) -> u64 {
+    unsafe {
+        vof_pipe_take(
+            state.as_mut_ptr(),
+            state.len(),
+            part.as_ptr(),
+            part.len(),
+            told.as_mut_ptr(),
+            told.len(),
+        )
+    }
+}
+
+/// Word: the place of refusals 1 to 8, which the state remembers, else how many records.
+pub fn pipe_end(state: &mut [u64]) -> u64 {
+    unsafe { vof_pipe_end(state.as_mut_ptr(), state.len()) }
 }
 
 /// Word: how many entries. Told of each: where the pack's ULID starts in the primary part; the source

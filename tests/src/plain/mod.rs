@@ -1,4 +1,4 @@
-//! Document 01, with requests 1, 2 and 4 of document 02, as plainly as can be, written from the papers and
+//! Document 01, with requests 1, 2, 4 and 6 of document 02, as plainly as can be, written from the papers and
 //! not from the proved definitions: their rules, document 001's letters (docs/FORMAT.md), the published
 //! specifications of XXH64 and MessagePack.
 
@@ -7,6 +7,7 @@ pub mod lookup;
 pub mod msgpack;
 pub mod pack;
 pub mod pack_list;
+pub mod pipe;
 pub mod record;
 pub mod value;
 pub mod writer;

@@ -16,18 +16,21 @@ pub fn refusal(number: Number, place: usize) -> Refusal {
     }
 }
 
-fn number(bytes: &[u8]) -> u64 {
+pub fn number(bytes: &[u8]) -> u64 {
     bytes
         .iter()
         .fold(0, |number, &byte| number << 8 | u64::from(byte))
 }
 
-/// The record at the front of the bytes, of which there is at least one: refusals 2 to 8.
-pub fn read_tlv(bytes: &[u8]) -> Result<([u8; 2], &[u8]), Number> {
-    if bytes.len() < 32 {
-        return Err(2);
-    }
-    let (header, rest) = bytes.split_at(32);
+/// What a record's first 32 bytes say.
+pub struct Header {
+    pub tag: [u8; 2],
+    pub length: u64,
+    pub hash: u64,
+}
+
+/// The header in these 32 bytes: refusals 3 to 6.
+pub fn read_header(header: &[u8]) -> Result<Header, Number> {
     if &header[..8] != MAGIC {
         return Err(3);
     }
@@ -40,29 +43,53 @@ pub fn read_tlv(bytes: &[u8]) -> Result<([u8; 2], &[u8]), Number> {
     if number(&header[30..]) != xxh64(&header[..30]) % 65_536 {
         return Err(6);
     }
-    let length = number(&header[8..16]);
-    if length > rest.len() as u64 {
+    Ok(Header {
+        tag: [header[25], header[26]],
+        length: number(&header[8..16]),
+        hash: number(&header[16..24]),
+    })
+}
+
+/// The record at the front of the bytes, of which there is at least one: refusals 2 to 8.
+pub fn read_tlv(bytes: &[u8]) -> Result<([u8; 2], &[u8]), Number> {
+    if bytes.len() < 32 {
+        return Err(2);
+    }
+    let (header, rest) = bytes.split_at(32);
+    let header = read_header(header)?;
+    if header.length > rest.len() as u64 {
         return Err(7);
     }
-    let value = &rest[..length as usize];
-    if number(&header[16..24]) != xxh64(value) {
+    let value = &rest[..header.length as usize];
+    if header.hash != xxh64(value) {
         return Err(8);
     }
-    Ok(([header[25], header[26]], value))
+    Ok((header.tag, value))
+}
+
+/// The records of a pack before its first fault, and how it ends: refusals 1 to 8.
+pub fn walk(pack: &[u8], limit: u64) -> (Vec<Entry<'_>>, Result<(), Refusal>) {
+    let mut entries = Vec::new();
+    if pack.len() as u64 > limit {
+        return (entries, Err(refusal(1, 0)));
+    }
+    let mut at = 0;
+    while at < pack.len() {
+        match read_tlv(&pack[at..]) {
+            Err(number) => return (entries, Err(refusal(number, at))),
+            Ok((tag, value)) => {
+                entries.push((at, tag, value));
+                at += 32 + value.len();
+            }
+        }
+    }
+    (entries, Ok(()))
 }
 
 /// All records of a pack: refusals 1 to 8.
 pub fn read_pack(pack: &[u8]) -> Result<Vec<Entry<'_>>, Refusal> {
-    if pack.len() as u64 > LIMIT {
-        return Err(refusal(1, 0));
-    }
-    let (mut entries, mut at) = (Vec::new(), 0);
-    while at < pack.len() {
-        let (tag, value) = read_tlv(&pack[at..]).map_err(|number| refusal(number, at))?;
-        entries.push((at, tag, value));
-        at += 32 + value.len();
-    }
-    Ok(entries)
+    let (entries, ending) = walk(pack, LIMIT);
+    ending.map(|()| entries)
 }
 
 /// The 32 bytes before a value, with both hashes right.

@@ -6,6 +6,7 @@ mod forms;
 mod large;
 mod names;
 mod pack_lists;
+mod pipes;
 mod properties;
 mod writing;
 
@@ -14,7 +15,7 @@ use crate::random::Random;
 
 type Section = (&'static str, fn(&mut Compare, &mut Random));
 
-pub const ALL: [Section; 26] = [
+pub const ALL: [Section; 31] = [
     ("the documents' own cases", document::cases),
     ("the stored lookups", document::lookups),
     ("hashes", document::hashes),
@@ -36,6 +37,11 @@ pub const ALL: [Section; 26] = [
     ("random packs", damage::random_packs),
     ("bytes changed", damage::changed),
     ("cut and grown", damage::cut_and_grown),
+    ("packs in parts", pipes::cut_by_chance),
+    ("packs in parts, cut at every place", pipes::cut_everywhere),
+    ("packs in parts, bytes changed", pipes::changed),
+    ("any state of a pipe", pipes::any_state),
+    ("pipes near their limit", pipes::near_the_limit),
     ("pack lists", pack_lists::lists),
     ("pack lists, changed and cut", pack_lists::damaged),
     (

@@ -1,8 +1,12 @@
 -- `console::fill` meets its contract. The invariant: what has been read lies within the buffer.
-use borrow.Author.Needs.{needs}
-use mathlib.Core.Path.{_≡_}
+use mathlib.Core.Path.{_≡_, ap, subst}
 use Prim.Native.Nat.{_-_, _≤_}
-use lib.ListN.{length}
+use native.Mathlib.Omega.{arith}
+use lib.ListN.{length, length-drop}
+use Rattle.slices.specs.Lists.{part-to-end}
+use Rattle.console.specs.Inputs.{Within}
+use Rattle.console.specs.declared.Read.{Read}
+use borrow.Author.Needs.{needs}
 use Rattle.console.proofs.fill.Statement.{statement}
 use Rattle.console.proofs.fill.Tie as tie
 
@@ -15,17 +19,23 @@ abbrev μ-loop : tie.MeasureT-loop
 loop-holds : tie.Need-loop-holds Inv-loop μ-loop
 loop-holds c = search needs
 
-sub-read : tie.Need-sub-read Inv-loop μ-loop
-sub-read c = search needs
+sub-read-part : tie.Need-sub-read-part Inv-loop μ-loop
+sub-read-part c = search needs
 
-part-read-start : tie.Need-part-read-start Inv-loop μ-loop
-part-read-start c = search needs
+part-read-part-start : tie.Need-part-read-part-start Inv-loop μ-loop
+part-read-part-start c = search needs
 
-part-read-end : tie.Need-part-read-end Inv-loop μ-loop
-part-read-end c = search needs
+part-read-part-end : tie.Need-part-read-part-end Inv-loop μ-loop
+part-read-part-end c = search needs
 
-read-requires : tie.Need-read-requires Inv-loop μ-loop
-read-requires c κs = search needs
+read-part-requires : tie.Need-read-part-requires Inv-loop μ-loop
+read-part-requires c κs = search needs
+
+enum-known-more : tie.Need-enum-known-more Inv-loop μ-loop
+enum-known-more c = search needs
+
+enum-told : tie.Need-enum-told Inv-loop μ-loop
+enum-told c = search needs
 
 same-length : tie.Need-same-length Inv-loop μ-loop
 same-length c = search needs
@@ -33,32 +43,29 @@ same-length c = search needs
 returns : tie.Need-returns Inv-loop μ-loop
 returns c = search needs
 
-sub-count : tie.Need-sub-count Inv-loop μ-loop
-sub-count c = search needs
-
-part-count-start : tie.Need-part-count-start Inv-loop μ-loop
-part-count-start c = search needs
-
-part-count-end : tie.Need-part-count-end Inv-loop μ-loop
-part-count-end c = search needs
-
-count-requires : tie.Need-count-requires Inv-loop μ-loop
-count-requires c κs = search needs
-
 same-length-2 : tie.Need-same-length-2 Inv-loop μ-loop
 same-length-2 c = search needs
 
 returns-2 : tie.Need-returns-2 Inv-loop μ-loop
 returns-2 c = search needs
 
+-- what was read lies within the rest
+within : (c : tie.After-known-told Inv-loop μ-loop)
+    → c .before .more .given .0 .0 ≤ length (c .before .before .before .before .before .before .before .before .loop .buffer) - c .before .before .before .before .before .before .before .before .loop .n
+within c =
+    let r = c .before .before .before .before .before .read-part in
+    let l = c .before .before .before .before .before .before .before .before .loop in
+    let read = subst (λ (x : Read). Within x (r .last .0)) (c .before .more .given .1) (r .ensures) in
+    omega (arith, read, r .kept .0, ap length (part-to-end (l .n) (l .buffer)), length-drop (l .n) (l .buffer))
+
 add-n : tie.Need-add-n Inv-loop μ-loop
-add-n c = search needs
+add-n c = let w = within (c .before) in search needs
 
 loop-less : tie.Need-loop-less Inv-loop μ-loop
 loop-less c = search needs
 
 loop-again : tie.Need-loop-again Inv-loop μ-loop
-loop-again c = search needs
+loop-again c = let w = within (c .before) in search needs
 
 same-length-3 : tie.Need-same-length-3 Inv-loop μ-loop
 same-length-3 c = search needs
@@ -73,16 +80,14 @@ fill-spec =
     Inv-loop
     μ-loop
     loop-holds
-    sub-read
-    part-read-start
-    part-read-end
-    read-requires
+    sub-read-part
+    part-read-part-start
+    part-read-part-end
+    read-part-requires
+    enum-known-more
+    enum-told
     same-length
     returns
-    sub-count
-    part-count-start
-    part-count-end
-    count-requires
     same-length-2
     returns-2
     add-n

@@ -23,10 +23,7 @@ array-copy-out-e : tie.Need-array-copy-out-e Inv-loop μ-loop
 array-copy-out-e c = omega (arith, c .before .before .before .pre .0 .0)
 
 put-line-requires : tie.Need-put-line-requires Inv-loop μ-loop
-put-line-requires c κs =
-    let v = c .before .before .before .loop .inv .1 in
-    let b = c .before .before .before .before .before in
-    omega (arith, v .same, v .short, b .pre .0 .0, b .pre .1)
+put-line-requires c κs = search needs
 
 add-i : tie.Need-add-i Inv-loop μ-loop
 add-i c = search needs

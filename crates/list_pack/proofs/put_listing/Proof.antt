@@ -27,7 +27,7 @@ put-lines-requires c κs =
     ((f .few, rw (c .before .before .before .before .before .scan-all .ensures .1) (length-list _ _ f)), omega (arith, b .pre .1))
 
 put-count-requires : tie.Need-put-count-requires
-put-count-requires c κs = omega (arith, c .before .before .before .put-lines .ensures .1, c .before .before .before .put-lines .kept .0, c .before .before .before .before .before .before .before .before .before .before .before .before .pre .1)
+put-count-requires c κs = search needs
 
 enum-told : tie.Need-enum-told
 enum-told c = search needs
@@ -53,7 +53,7 @@ same-length c = search needs
 returns : tie.Need-returns
 returns c =
     let p = c .before .before .before .before .before .before .put-lines .ensures in
-    listing-put _ _ (is-filled (c .before .before .before .before .before .before .before .before)) (c .before .before .before .before .before .before .before .before .before .before .before .before .before .before .before .pre .1) (p .1) (rw (c .before .before .before .before .before .before .before .before .before .before .before .before .scan-all .ensures .1) at (p .0)) (c .before .before .put-count .ensures)
+    listing-put _ _ (is-filled (c .before .before .before .before .before .before .before .before)) (c .before .before .before .before .before .before .before .before .before .before .before .before .before .before .before .pre .1) (p .1) (rw (c .before .before .before .before .before .before .before .before .before .before .before .before .scan-all .ensures .1) at (p .0)) (c .before .before .before .before .before .before .put-lines .kept .0) (c .before .before .put-count .ensures)
 
 same-length-2 : tie.Need-same-length-2
 same-length-2 c = search needs

@@ -1,0 +1,3 @@
+pub mod Packing
+pub mod Written
+pub mod Calls

@@ -1,0 +1,5 @@
+pub mod Bytes
+pub mod State
+pub mod WellFormed
+pub mod Answers
+pub mod Exactly

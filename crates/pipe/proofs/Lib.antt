@@ -1,0 +1,4 @@
+pub mod Bulk
+pub mod Calls
+pub mod Handing
+pub mod Written
