@@ -10,8 +10,8 @@ use pack::Entry;
 use pack::Scanned;
 
 pub fn check_front(pack: &[u8], n: usize) -> Checked
-    ensures { λ r. ⌜ outcomeOf r ≡ outcome (reading packLimit (take n (now (pack .entry)))) ⌝ }
-    ensures cut { λ r. ⌜ CheckedCut (now (pack .entry)) n (outcomeOf r) ⌝ }
+    ensures { λ r. ⌜ (outcomeOf r ≡ outcome (reading packLimit (take n (now (pack .entry)))))
+        × CheckedCut (now (pack .entry)) n (outcomeOf r) ⌝ }
 {
     pack::check(slices::front(pack, n))
 }
@@ -19,8 +19,8 @@ pub fn check_front(pack: &[u8], n: usize) -> Checked
 // One entry a record, in order; entries after those keep their content, and on a refusal all do.
 pub fn scan_front(pack: &[u8], n: usize, list: &mut [Entry]) -> Scanned
     ensures { λ r. ⌜ (scannedOf r ≡ scanned (reading packLimit (take n (now (pack .entry)))) (length (now (list .entry))))
-        × (now (list .exit) ≡ listAfter (reading packLimit (take n (now (pack .entry)))) (now (list .entry))) ⌝ }
-    ensures cut { λ r. ⌜ ScannedCut (now (pack .entry)) n (now (list .entry)) (scannedOf r) (now (list .exit)) ⌝ }
+        × ((now (list .exit) ≡ listAfter (reading packLimit (take n (now (pack .entry)))) (now (list .entry)))
+        × ScannedCut (now (pack .entry)) n (now (list .entry)) (scannedOf r) (now (list .exit))) ⌝ }
 {
     pack::scan(slices::front(pack, n), list)
 }
