@@ -100,9 +100,9 @@ passes (e ∷ before) behind at m x y read fills inside =
     let place : at + (32 + e .length) ≡ at + size = omega arith in
     let left : drop size (x ++ y) ≡ drop size x ++ y = drop-append-le size x y (omega arith) in
     let more = passes before behind (at + size) (m - size) (drop size x) y
-            (ap (λ (t : List ℕ). records (at + size) 0 t .entries) (sym left) ∙ f .others)
-            (subst (λ (p : ℕ). Fills p before ((at + size) + (m - size))) place (subst (Fills (at + (32 + e .length)) before) stop (fills .1)))
-            (rw length-drop (omega arith)) in
+    (ap (λ (t : List ℕ). records (at + size) 0 t .entries) (sym left) ∙ f .others)
+    (subst (λ (p : ℕ). Fills p before ((at + size) + (m - size))) place (subst (Fills (at + (32 + e .length)) before) stop (fills .1)))
+    (rw length-drop (omega arith)) in
     let rest : drop (m - size) (drop size x) ≡ drop m x = drop-drop (m - size) size x ∙ ap (λ (k : ℕ). drop k x) ends in
     record {
       front = records-found at x (f .header) (record-left x y (f .header) (step-stands (x ++ y) (f .header) (f .there)) (omega arith) (omega arith))
@@ -143,7 +143,7 @@ module _ (limit : ℕ) (s : List ℕ) (accepted : reading limit s .ending ≡ wh
       let so-many : length left ≡ n - start = length-drop start (take n s) ∙ ap (λ (k : ℕ). k - start) (length-take-le n s inside) in
       let size : c .broken .length ≡ f .header .length = ap (λ (e : Entry). e .length) (sym (f .entry)) in
       let cut : step left ≡ fault (cutNumber (length left)) = record-cut left (drop n s) (f .header) (step-stands (left ++ drop n s) (f .header) (f .there))
-              (omega (arith, c .begun)) (omega (arith, c .unfinished, c .begun)) in
+      (omega (arith, c .begun)) (omega (arith, c .unfinished, c .begun)) in
       rw (le-ltb limit (length (take n s)) within, p .front, records-fault (0 + start) left (cutNumber (length left)) cut, append-nil, so-many, zero-add)
 
 -- ---- a cut falls in exactly one of the two ways
