@@ -2,21 +2,21 @@
 use Prim.Native.Nat.{ℕ, _+_, _-_, _≤_, _<_}
 use mathlib.Core.Bool.{Bool, true, false}
 use mathlib.Core.List.{List, [], _∷_, _++_, append-nil}
-use mathlib.Core.Logic.{_⊎_, inl, inr, ⊎-elim}
+use mathlib.Core.Logic.{_⊎_, inl, inr}
 use mathlib.Core.Path.{_≡_, refl, sym, ap, subst, _∙_}
 use native.Mathlib.Nat.{zero-add, add-zero}
 use native.Mathlib.Omega.{arith}
-use borrow.Author.Tests.{le-ltb, ltb-true, ltb-false, eqb-true, eqb-false}
-use lib.Dec.{ltb, eqb}
+use borrow.Author.Tests.{le-ltb, ltb-true, ltb-false}
+use lib.Dec.{ltb}
 use lib.ListN.{length, getD, take, drop, length-drop, take-append-drop}
-use lib.Seq.{take-nil, drop-length, drop-drop, drop-append-le, length-take-le, append-snoc}
+use lib.Seq.{drop-drop, drop-append-le, length-take-le, append-snoc}
 use Rattle.slices.specs.Bytes.{AllBytes}
 use Rattle.slices.specs.Logic.{absurd-numbers}
 use Rattle.tlv.specs.Found.{Found, end, found, fault, step, step-none}
 use Rattle.tlv.specs.Stands.{step-stands}
 use Rattle.tlv.specs.declared.RecordHeader.{RecordHeader}
 use Rattle.pack.specs.declared.Entry.{Entry}
-use Rattle.pack.specs.Reading.{Reading, Ending, whole, refused, records, reading, entryAt, records-end, records-fault, records-found}
+use Rattle.pack.specs.Reading.{Reading, whole, refused, records, reading, entryAt, records-end, records-fault, records-found}
 use Rattle.pack.specs.Acceptance.{Fills, after, accepted-within, accepted-reading, accepted-fills}
 use Rattle.truncation.specs.Steps.{cutNumber, record-left, record-cut}
 
@@ -181,11 +181,13 @@ falls n passed (e ∷ es) at stop f g low high =
 -- THE THEOREM
 pub cut-off : (limit : ℕ) (s : List ℕ) (n : ℕ) → AllBytes s → reading limit s .ending ≡ whole → n ≤ length s → CutOff limit s n
 cut-off limit s n bytes e inside =
+    let between = cut-between limit s e n inside in
+    let broken = cut-inside limit s e n inside in
     record {
       either-way = falls n [] (reading limit s .entries) 0 (length s) refl (accepted-fills limit s (accepted-within limit s e) bytes e) (omega arith) inside;
-      not-both = λ b i. absurd-numbers (let clash : whole ≡ refused _ _ = ap (λ (r : Reading). r .ending) (sym (cut-between limit s e n inside b) ∙ cut-inside limit s e n inside i) in cc);
-      accepted = cut-between limit s e n inside;
-      broken-refused = cut-inside limit s e n inside;
-      front-accepted = λ c.
-          cut-between limit s e (c .broken .start) (omega (arith, c .begun)) (record { before = c .before; behind = c .broken ∷ c .behind; entries = c .entries; fills = c .fills });
+      not-both = λ b c. absurd-numbers (let clash = ap (λ (r : Reading). r .ending) (sym (between b) ∙ broken c) in cc);
+      accepted = between;
+      broken-refused = broken;
+      front-accepted = λ c. cut-between limit s e (c .broken .start) (omega (arith, c .begun))
+          (record { before = c .before; behind = c .broken ∷ c .behind; entries = c .entries; fills = c .fills });
     }

@@ -25,7 +25,7 @@ module _ (x y : List ℕ) where
   part-left at w inside =
       ap (take w) (drop-append-le at x y (omega arith)) ∙ take-append-le w (drop at x) y (rw length-drop (omega arith))
 
-  field-left : (at w : ℕ) → at + w ≤ length x → field (x ++ y) at w ≡ field x at w
+  field-left : (at w : ℕ) → at + w ≤ length x → field x at w ≡ field (x ++ y) at w
   unfolding field
   field-left at w inside = rw (part-left at w inside)
 
@@ -36,25 +36,25 @@ module _ (x y : List ℕ) where
 
     module _ (header-left : 32 ≤ length x) where
       length-left : field x 8 8 ≡ h .length
-      length-left = sym (field-left 8 8 (omega arith)) ∙ length-is
+      length-left = field-left 8 8 (omega arith) ∙ length-is
 
       hash-left : field x 30 2 ≡ xxh64 (take 30 x) % 65536
       hash-left =
-          sym (field-left 30 2 (omega arith)) ∙ stands .headerHash ∙ ap (λ (t : List ℕ). xxh64 t % 65536) (take-append-le 30 x y (omega arith))
+          field-left 30 2 (omega arith) ∙ stands .headerHash ∙ ap (λ (t : List ℕ). xxh64 t % 65536) (take-append-le 30 x y (omega arith))
 
       -- all of the record is left: it stands as before
       pub record-left : 32 + h .length ≤ length x → step x ≡ found h
       unfolding headerOf
       record-left long = stands-step x h (record {
-        header = (λ i. record { tag = sym (field-left 25 2 (omega arith)) i; length = sym (field-left 8 8 (omega arith)) i; hash = sym (field-left 16 8 (omega arith)) i })
+        header = (λ i. record { tag = field-left 25 2 (omega arith) i; length = field-left 8 8 (omega arith) i; hash = field-left 16 8 (omega arith) i })
             ∙ stands .header;
         long = long;
-        magic = sym (field-left 0 8 (omega arith)) ∙ stands .magic;
-        version = sym (field-left 24 1 (omega arith)) ∙ stands .version;
-        hashType = sym (field-left 27 1 (omega arith)) ∙ stands .hashType;
+        magic = field-left 0 8 (omega arith) ∙ stands .magic;
+        version = field-left 24 1 (omega arith) ∙ stands .version;
+        hashType = field-left 27 1 (omega arith) ∙ stands .hashType;
         headerHash = hash-left;
         valueHash =
-            sym (field-left 16 8 (omega arith)) ∙ stands .valueHash
+            field-left 16 8 (omega arith) ∙ stands .valueHash
             ∙ ap xxh64 (ap (λ (n : ℕ). take n (drop 32 (x ++ y))) length-is ∙ part-left 32 (h .length) long
             ∙ ap (λ (n : ℕ). take n (drop 32 x)) (sym length-left));
       })
@@ -67,9 +67,9 @@ module _ (x y : List ℕ) where
           rw (
             ne-eqb (length x) 0 some,
             le-ltb (length x) 32 header-left,
-            sym (field-left 0 8 (omega arith)) ∙ stands .magic,
-            sym (field-left 24 1 (omega arith)) ∙ stands .version,
-            sym (field-left 27 1 (omega arith)) ∙ stands .hashType,
+            field-left 0 8 (omega arith) ∙ stands .magic,
+            field-left 24 1 (omega arith) ∙ stands .version,
+            field-left 27 1 (omega arith) ∙ stands .hashType,
             eq-eqb _ _ hash-left,
             length-left,
             lt-ltb (length x - 32) (h .length) (omega arith),

@@ -1,8 +1,9 @@
 // A pack that was cut off: its first n bytes, checked and scanned. Where n is above its length, these are all of it.
 ghost use mathlib.Core.Path.{_≡_};
+ghost use Prim.Native.Nat.{_≤_};
 ghost use lib.ListN.{length, take};
 ghost use Rattle.refusals.specs.Limit.{packLimit};
-ghost use Rattle.pack.specs.Reading.{reading, outcome, outcomeOf};
+ghost use Rattle.pack.specs.Reading.{whole, reading, outcome, outcomeOf};
 ghost use Rattle.pack.specs.Scan.{scannedOf, scanned, listAfter};
 ghost use Rattle.truncation.specs.Answers.{CheckedCut, ScannedCut};
 use pack::Checked;
@@ -11,7 +12,8 @@ use pack::Scanned;
 
 pub fn check_front(pack: &[u8], n: usize) -> Checked
     ensures { λ r. ⌜ (outcomeOf r ≡ outcome (reading packLimit (take n (now (pack .entry)))))
-        × CheckedCut (now (pack .entry)) n (outcomeOf r) ⌝ }
+        × (reading packLimit (now (pack .entry)) .ending ≡ whole → n ≤ length (now (pack .entry))
+        → CheckedCut (reading packLimit (now (pack .entry)) .entries) n (outcomeOf r)) ⌝ }
 {
     pack::check(slices::front(pack, n))
 }
@@ -20,7 +22,8 @@ pub fn check_front(pack: &[u8], n: usize) -> Checked
 pub fn scan_front(pack: &[u8], n: usize, list: &mut [Entry]) -> Scanned
     ensures { λ r. ⌜ (scannedOf r ≡ scanned (reading packLimit (take n (now (pack .entry)))) (length (now (list .entry))))
         × ((now (list .exit) ≡ listAfter (reading packLimit (take n (now (pack .entry)))) (now (list .entry)))
-        × ScannedCut (now (pack .entry)) n (now (list .entry)) (scannedOf r) (now (list .exit))) ⌝ }
+        × (reading packLimit (now (pack .entry)) .ending ≡ whole → n ≤ length (now (pack .entry))
+        → ScannedCut (reading packLimit (now (pack .entry)) .entries) n (now (list .entry)) (scannedOf r) (now (list .exit)))) ⌝ }
 {
     pack::scan(slices::front(pack, n), list)
 }

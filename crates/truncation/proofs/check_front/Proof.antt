@@ -1,9 +1,8 @@
 -- `truncation::check_front` meets its contract: what is checked is the front.
 use borrow.Author.Needs.{needs}
 use mathlib.Core.List.{List}
-use mathlib.Core.Path.{_≡_, ap, _∙_}
+use mathlib.Core.Path.{ap, _∙_}
 use Prim.Native.Nat.{ℕ}
-use lib.ListN.{take}
 use Rattle.refusals.specs.Limit.{packLimit}
 use Rattle.pack.specs.Reading.{reading, outcome}
 use Rattle.truncation.specs.Answers.{checked-cut}
@@ -19,7 +18,7 @@ check-requires c κs = search needs
 returns : tie.Need-returns
 returns c =
     let answers = c .check .ensures ∙ ap (λ (t : List ℕ). outcome (reading packLimit t)) (c .before .front .ensures .0) in
-    (answers, checked-cut _ _ _ answers)
+    (answers, λ accepted within. checked-cut _ _ _ accepted within answers)
 
 pub check-front-spec : {M : Type 1} → statement M
 check-front-spec = tie.close (tie.spec front-requires check-requires returns)

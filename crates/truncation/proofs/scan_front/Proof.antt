@@ -1,7 +1,7 @@
 -- `truncation::scan_front` meets its contract: a walk of its MIR, by hand, with no branch and no loop: `slices::front` and `pack::scan` are called one after the
 -- other. The list goes on to `scan` for good, at its own lifetime and name, and `scan` says what it holds then.
 use mathlib.Core.Path.{_≡_, refl, sym, ap, subst, _∙_}
-use Prim.Native.Nat.{ℕ, _<_, _^_}
+use Prim.Native.Nat.{ℕ, _≤_, _<_, _^_}
 use mathlib.Core.List.{List, [], _∷_}
 use lib.Dec.{T}
 use lib.ListN.{length, take}
@@ -41,7 +41,7 @@ use denote.Triple.Clauses.{ensured, lasts}
 use Rattle.refusals.specs.Limit.{packLimit}
 use Rattle.pack.specs.declared.Entry.{Entry}
 use Rattle.pack.specs.declared.Scanned.{Scanned}
-use Rattle.pack.specs.Reading.{reading}
+use Rattle.pack.specs.Reading.{whole as ended, reading}
 use Rattle.pack.specs.Scan.{scannedOf, scanned, listAfter}
 use Rattle.pack.proofs.Entry as entry
 use Rattle.pack.proofs.Scanned as answer
@@ -150,13 +150,13 @@ module _ {M : Type 1} (𝓤 : URA M) (H : Heap 𝓤) (A : Atoms 𝓤) (W : Given
 
   -- of the part, the front, and so of a cut
   abbrev Right : Scanned → List Entry → Type 0
-  Right answers zs = (scannedOf answers ≡ scanned (reading packLimit (take n (now s))) (length xs)) × ((zs ≡ listAfter (reading packLimit (take n (now s))) xs) × ScannedCut (now s) n xs (scannedOf answers) zs)
+  Right answers zs = (scannedOf answers ≡ scanned (reading packLimit (take n (now s))) (length xs)) × ((zs ≡ listAfter (reading packLimit (take n (now s))) xs) × (reading packLimit (now s) .ending ≡ ended → n ≤ length (now s) → ScannedCut (reading packLimit (now s) .entries) n xs (scannedOf answers) zs))
 
   right : (r : RefT (List ℕ)) (answers : Scanned) (zs : List Entry) → Cuts r → Said r answers zs → Right answers zs
   right r answers zs cuts said =
       let e = said .0 ∙ ap (λ (t : List ℕ). scanned (reading packLimit t) (length xs)) cuts in
       let f = said .1 ∙ ap (λ (t : List ℕ). listAfter (reading packLimit t) xs) cuts in
-      (e, (f, scanned-cut (now s) n xs (scannedOf answers) zs e f))
+      (e, (f, λ accepted within. scanned-cut (now s) n (scannedOf answers) accepted within xs zs e f))
 
   -- what is left at the `return` is what the contract asks
   exits : (answers : Scanned) (u : Val) (zs : List Entry) → Right answers zs → length zs ≡ length xs
