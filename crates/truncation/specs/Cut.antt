@@ -56,6 +56,7 @@ pub record CutOff (limit : ℕ) (s : List ℕ) (n : ℕ) : Type 0 where
 
 -- ---- the first record, by the entries that are read
 
+-- the first entry is e, es follow
 record First (at : ℕ) (s : List ℕ) (e : Entry) (es : List Entry) : Type 0 where
   header : RecordHeader
   there : step s ≡ found header
@@ -81,6 +82,7 @@ fills-rise : (at : ℕ) (es : List Entry) (stop : ℕ) → Fills at es stop → 
 fills-rise at [] stop f = omega arith
 fills-rise at (e ∷ es) stop f = omega (arith, fills-rise (at + (32 + e .length)) es stop (f .1))
 
+-- x is a front of x ++ y; the entries `before` fill its first m bytes, and in x ++ y the entries `behind` follow
 record Passes (before behind : List Entry) (at m : ℕ) (x y : List ℕ) : Type 0 where
   front : records at 0 x ≡ after before (records (at + m) 0 (drop m x))
   whole-pack : records (at + m) 0 (drop m x ++ y) .entries ≡ behind
