@@ -3,7 +3,7 @@ use Prim.Native.Nat.{ℕ, suc, _+_}
 use mathlib.Core.Bool.{Bool, true, false}
 use mathlib.Core.List.{List, [], _∷_, _++_, map}
 use mathlib.Core.Path.{_≡_, refl}
-use lib.ListN.{length, replicate}
+use lib.ListN.{length, take, replicate}
 use Rattle.slices.specs.Bytes.{sameBytes}
 use Rattle.refusals.specs.Sheet.{lowest}
 use Rattle.refusals.specs.Limit.{packLimit}
@@ -12,7 +12,7 @@ use Rattle.endian.specs.Places.{holds, numberAt}
 use Rattle.xxh64.specs.Xxh64.{add, mul, rotl, foldHigh, lane, taken, round, mergeAccumulator, converge, stripes, consume8, consume4, consume1, consume, avalanche, xxh64}
 use Rattle.tlv.specs.Layout.{Record, bytesOf, fields, head, layout, layouts, field}
 use Rattle.tlv.specs.Found.{headerRows, valueRows, headerOf, step}
-use Rattle.pack.specs.Reading.{records, reading}
+use Rattle.pack.specs.Reading.{whole, records, reading}
 use Rattle.msgpack.specs.Formats.{formats, formatOf}
 use Rattle.msgpack.specs.Items.{headOf, passItems, passHead, passItem}
 use Rattle.msgpack.specs.Readers.{isWhole, contentAt, readBoolean, integerOf, readInteger, countAt}
@@ -156,3 +156,35 @@ unfolding rows layouts layout head fields bytesOf bigBytes littleBytes little bi
     contents toldRows readRecord isLookedAt role less hasName sameIdentity versionOf filtered better best deletes
     isDeleted isLive current readability answerIn isName lookup
 rows-hold = refl
+
+-- ---- a front of a pack, such as a copy that stopped between two records, is accepted by itself and can answer otherwise: a newer version may be missing, or
+-- the deletion
+
+abbrev pub cutPack : List ℕ
+cutPack = layouts (vr (plain herd one) ∷ vd one ∷ vr (plain herd two) ∷ [])
+
+-- the first n bytes are accepted, and answer so
+pub record FrontAnswers (n : ℕ) (answer : Answer) : Type 0 where
+  pub accepted : reading packLimit (take n cutPack) .ending ≡ whole
+  pub answered : lookup packLimit (take n cutPack) herd scan ≡ answer
+
+pub record FrontsDiffer : Type 0 where
+  pub all-of-it : FrontAnswers (length cutPack) (is two false (plain herd two) 181)
+  pub newer-version-missing : FrontAnswers 181 nothing
+  pub deletion-missing : FrontAnswers 75 (is one false (plain herd one) 0)
+
+pub fronts-differ : FrontsDiffer
+unfolding layouts layout head fields bytesOf bigBytes littleBytes little big add mul rotl foldHigh lane taken round
+    mergeAccumulator converge stripes consume8 consume4 consume1 consume avalanche xxh64 field headerRows valueRows
+    lowest headerOf step records reading passItem passHead passItems headOf isWhole contentAt readBoolean integerOf
+    readInteger countAt keyAt sameBytes lastWhere lastValue repeats timesOf timesWhere itemsFrom formatOf formats
+    numberAt holds naturalUnder bytesUnder isThere value-header.alone value-header.telling value-header.headerRepeats
+    withMap withList header value.reading fills textAt textUnder textsUnder deletedUnder ulidOf primary.version
+    primary.versionDelete isUlid isCharacter alphabet isBucket isObject isValid identityOf sized member all isKnown
+    contents toldRows readRecord isLookedAt role less hasName sameIdentity versionOf filtered better best deletes
+    isDeleted isLive current readability answerIn isName lookup
+fronts-differ = record {
+  all-of-it = record { accepted = refl; answered = refl };
+  newer-version-missing = record { accepted = refl; answered = refl };
+  deletion-missing = record { accepted = refl; answered = refl };
+}

@@ -15,7 +15,7 @@ use crate::random::Random;
 
 type Section = (&'static str, fn(&mut Compare, &mut Random));
 
-pub const ALL: [Section; 31] = [
+pub const ALL: [Section; 32] = [
     ("the documents' own cases", document::cases),
     ("the stored lookups", document::lookups),
     ("hashes", document::hashes),
@@ -56,4 +56,5 @@ pub const ALL: [Section; 31] = [
     ("write then read", properties::read_back),
     ("deletions and orders", properties::deletions_and_orders),
     ("longer than the limit", large::longer_than_the_limit),
+    ("cut at every byte", properties::fronts),
 ];

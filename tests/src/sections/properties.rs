@@ -1,4 +1,5 @@
-//! What the customer's demands say of the archive, through the safe functions of the `vof` crate.
+//! What the customer's demands and requests say of the archive, through the safe functions of the `vof`
+//! crate.
 
 use crate::compare::Compare;
 use crate::generate::{any_identifier, few_identifiers, identifier, primary, records, tag, ulid};
@@ -8,7 +9,7 @@ use crate::plain::lookup::{current, versions, Version};
 use crate::plain::pack::{read_pack, record};
 use crate::plain::record::{read_delete, read_version};
 use crate::random::Random;
-use vof::{Entry, IDENTIFIER_LIMIT};
+use vof::{Entry, Refusal, HEADER, IDENTIFIER_LIMIT};
 
 /// What was handed to the writer.
 enum Written {
@@ -118,6 +119,46 @@ fn reads_as(pack: &[u8], entry: Entry, identifier: &Identifier, written: &Writte
         }
     };
     parts && plain && named && content
+}
+
+/// A pack cut at every byte, which request 11 asks for.
+pub fn fronts(compare: &mut Compare, random: &mut Random) {
+    random.faults = false;
+    for _ in 0..40 {
+        let list = records(random, 4);
+        let pack = list.concat();
+        let mut all = vec![Entry::default(); list.len()];
+        let count = vof::scan(&pack, &mut all);
+        compare.hold("the pack is accepted", &[&pack], count == Ok(list.len()));
+        for end in 0..=pack.len() {
+            compare.inputs += 1;
+            front(compare, &pack[..end], &all);
+        }
+    }
+}
+
+/// Between records the front is accepted with the entries before the cut, otherwise it is refused at the
+/// start of the broken record.
+fn front(compare: &mut Compare, front: &[u8], all: &[Entry]) {
+    let end = front.len();
+    let ends = |entry: &&Entry| entry.start as usize + HEADER + entry.length as usize <= end;
+    let before = all.iter().take_while(ends).count();
+    let broken = all.get(before).map(|entry| entry.start as usize);
+    let mut wanted = vec![Entry::default(); all.len()];
+    let answer = match broken.filter(|&start| start < end) {
+        Some(start) => Err(Refusal {
+            number: if end - start < HEADER { 2 } else { 7 },
+            place: Some(start as u64),
+        }),
+        None => {
+            wanted[..before].copy_from_slice(&all[..before]);
+            Ok(before)
+        }
+    };
+    let mut entries = vec![Entry::default(); all.len()];
+    let scanned = vof::scan(front, &mut entries);
+    let same = scanned == answer && entries == wanted;
+    compare.hold("the scan of a front", &[front], same);
 }
 
 /// An answer of the lookup as demand 3 compares it: where the record stands plays no part.
