@@ -1,7 +1,8 @@
 -- What is longer than the limit is refused by its length, before any head is written for it; so the heads that are written hold their lengths.
+-- A version's part that is made from an identifier is never so long.
 use Prim.Native.Nat.{ℕ, _+_, _≤_, _<_, _^_}
 use mathlib.Core.Bool.{Bool, true, false, cond}
-use mathlib.Core.List.{List, _++_}
+use mathlib.Core.List.{List, _∷_, _++_, flatten}
 use mathlib.Core.Option.{some}
 use mathlib.Core.Path.{_≡_, refl, sym}
 use native.Mathlib.Omega.{arith}
@@ -11,8 +12,12 @@ use lib.ListN.{length, length-append}
 use Rattle.slices.specs.Logic.{absurd-numbers}
 use Rattle.refusals.specs.Limit.{packLimit}
 use Rattle.refusals.specs.Answers.{result, refused}
+use Rattle.endian.specs.Numbers.{length-bigBytes}
 use Rattle.tlv.specs.Layout.{layout, length-layout}
-use Rattle.writer.specs.Values.{blockHeader, blockPart, blockValue, partHeader, partValue, deletePart}
+use Rattle.msgpack_heads.specs.Heads.{Form, form, formBytes, sizedForm, textForm, containerForm, textHead, mapHead}
+use Rattle.identifier.specs.Identity.{Identity, isValid, sizes}
+use Rattle.primary.specs.Parts.{bucketKey, objectKey, ulidKey, deletedKey}
+use Rattle.writer.specs.Values.{textItem, pair, mapItem, blockHeader, blockPart, blockValue, partHeader, partValue, identityPairs, markerPairs, versionPart, deletePart}
 use Rattle.writer.specs.Writing.{Item, block, version, versionDelete, packList, deletion, tagOf, valueOf, recordOf, itemBytes, admitted, counted, written}
 
 -- what has no bound of its own: a block's data, or a primary part
@@ -60,3 +65,73 @@ heads-hold room used n item e = go (ltb packLimit (length (contentOf item))) ref
         let r = long-content-refused packLimit room used item (ltb-true _ _ f) in
         absurd-numbers (cc)
     go false f = omega (arith, ltb-false packLimit (length (contentOf item)) f)
+
+-- ---- a version's part that is made
+
+form-most : (f : Form) (n : ℕ) → f .width ≤ 4 → length (formBytes f n) ≤ 5
+form-most f n h = omega (arith, length-bigBytes (f .width) n)
+
+sized-most : (first n : ℕ) → sizedForm first n .width ≤ 4
+unfolding sizedForm
+sized-most first n = go (ltb n 256) (ltb n 65536)
+  where
+    go : (s t : Bool) → cond s (form first 1) (cond t (form (first + 1) 2) (form (first + 2) 4)) .width ≤ 4
+    go true t = omega arith
+    go false true = omega arith
+    go false false = omega arith
+
+text-head-most : (n : ℕ) → length (textHead n) ≤ 5
+unfolding textForm
+text-head-most n = go (ltb n 32)
+  where
+    go : (s : Bool) → length (formBytes (cond s (form (0xa0 + n) 0) (sizedForm 0xd9 n)) n) ≤ 5
+    go true = form-most (form (0xa0 + n) 0) n (omega arith)
+    go false = form-most (sizedForm 0xd9 n) n (sized-most 0xd9 n)
+
+map-head-most : (n : ℕ) → length (mapHead n) ≤ 5
+unfolding containerForm
+map-head-most n = go (ltb n 16) (ltb n 65536)
+  where
+    go : (s t : Bool) → length (formBytes (cond s (form (0x80 + n) 0) (cond t (form 0xde 2) (form 0xdf 4))) n) ≤ 5
+    go true t = form-most (form (0x80 + n) 0) n (omega arith)
+    go false true = form-most (form 0xde 2) n (omega arith)
+    go false false = form-most (form 0xdf 4) n (omega arith)
+
+text-most : (t : List ℕ) → length (textItem t) ≤ 5 + length t
+unfolding textItem
+text-most t = omega (arith, length-append (textHead (length t)) t, text-head-most (length t))
+
+pair-most : (key t : List ℕ) → length (pair key t) ≤ 10 + length key + length t
+unfolding pair
+pair-most key t = omega (arith, length-append (textItem key) (textItem t), text-most key, text-most t)
+
+marker-most : (marker : Bool) → length (flatten (markerPairs marker)) ≤ 7
+unfolding flatten
+marker-most true = simp length-append (omega (arith, text-most deletedKey))
+marker-most false = omega arith
+
+map-most : (pairs : List (List ℕ)) → length (mapItem pairs) ≤ 5 + length (flatten pairs)
+unfolding mapItem
+map-most pairs = omega (arith, length-append (mapHead (length pairs)) (flatten pairs), map-head-most (length pairs))
+
+length-pairs : (b o v : List ℕ) (more : List (List ℕ)) → length (flatten (b ∷ o ∷ v ∷ more)) ≡ length b + length o + length v + length (flatten more)
+unfolding flatten
+length-pairs b o v more = simp length-append (omega arith)
+
+pub version-part-within : (i : Identity) (marker : Bool) → isValid i ≡ true → length (versionPart i marker) ≤ packLimit
+unfolding versionPart
+version-part-within i marker v =
+    let n = sizes i v in
+    let pairs = length-pairs (pair bucketKey (i .bucket)) (pair objectKey (i .object)) (pair ulidKey (i .ulid)) (markerPairs marker) in
+    omega (
+      arith,
+      map-most (identityPairs i ++ markerPairs marker),
+      pairs,
+      marker-most marker,
+      pair-most bucketKey (i .bucket),
+      pair-most objectKey (i .object),
+      pair-most ulidKey (i .ulid),
+      n .bucketmost,
+      n .objectmost,
+      n .ulid,
+    )
