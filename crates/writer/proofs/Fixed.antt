@@ -1,16 +1,16 @@
 -- The values, with their fixed bytes written out as the code has them, and how long they are.
-use Prim.Native.Nat.{ℕ, _+_, _<_}
+use Prim.Native.Nat.{ℕ, _+_}
 use mathlib.Core.Bool.{Bool, true, false}
 use mathlib.Core.List.{List, [], _∷_, _++_, flatten, append-assoc, append-nil}
 use mathlib.Core.Path.{_≡_, refl, ap, _∙_}
 use native.Mathlib.Omega.{arith}
-use borrow.Author.Tests.{lt-ltb}
 use lib.ListN.{length, length-append}
 use Rattle.endian.specs.Numbers.{littleBytes, bigBytes}
 use Rattle.msgpack_heads.specs.Heads.{textForm, containerForm, textHead, binaryHead, unsignedInteger, mapHead}
 use Rattle.identifier.specs.Identity.{Identity}
 use Rattle.identifier.specs.Composite.{compositeText}
 use Rattle.primary.specs.Parts.{bucketKey, objectKey, ulidKey, deleteIdKey}
+use Rattle.writer.specs.Limits.{length-headed}
 use Rattle.writer.specs.Values.{textItem, pair, primaryHeader, secondaryHeader, blockHeader, partHeader, blockPart, blockValue, partValue, mapItem, identityPairs, versionPart, deletePart}
 
 -- ---- the bytes
@@ -120,10 +120,6 @@ part-value-size p part n e f =
     let whole : 3 + (length (binaryHead (length p)) + length p) ≡ length (partHeader (length p) ++ p)
     = omega (arith, length-append (partHeader (length p)) p, ap length (part-header (length p)), length-primary (length p)) in
     f ∙ rw e whole
-
-length-headed : (n : ℕ) (t : List ℕ) → n < 16 → length (mapHead n ++ t) ≡ 1 + length t
-unfolding containerForm bigBytes littleBytes
-length-headed n t h = rw (lt-ltb n 16 h) (omega arith)
 
 pub length-identity : (i : Identity)
     → length (pair bucketKey (i .bucket)) + length (pair objectKey (i .object)) + length (pair ulidKey (i .ulid)) ≡ length (flatten (identityPairs i))

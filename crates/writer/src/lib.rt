@@ -473,7 +473,7 @@ fn store_deletion(
     }
 }
 
-// A version's primary part, at the front of a buffer that is long enough.
+// A version's primary part, at the front of a buffer where it fits.
 fn store_version_part(
     out: &mut [u8],
     ulid: &[u8],

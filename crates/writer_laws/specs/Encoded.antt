@@ -15,7 +15,7 @@ use Rattle.identifier.specs.Identity.{Identity, isValid, sizes}
 use Rattle.identifier.specs.Composite.{compositeText, composite-most}
 use Rattle.identifier.specs.Ulid.{isUlid, ulid-length}
 use Rattle.value.specs.Header.{primaryKey, secondaryKey, lengthKey}
-use Rattle.primary.specs.Parts.{bucketKey, objectKey, ulidKey, deletedKey, deleteIdKey}
+use Rattle.primary.specs.Parts.{deleteIdKey}
 use Rattle.records_model.specs.Written as values
 use Rattle.writer.specs.Values.{textItem, pair, mapItem, primaryHeader, secondaryHeader, blockHeader, partHeader, blockPart, partValue, identityPairs, markerPairs, versionPart, deletePart}
 

@@ -1,8 +1,6 @@
 -- The length is tested; then the part is written.
-use mathlib.Core.Path.{sym}
 use native.Mathlib.Omega.{arith}
 use borrow.Author.Needs.{needs}
-use borrow.Author.Tests.{ltb-true, ltb-false}
 use Rattle.writer.proofs.Parts.{part-short, part-stored}
 use Rattle.writer.proofs.store_version_part.Statement.{statement}
 use Rattle.writer.proofs.store_version_part.Tie as tie

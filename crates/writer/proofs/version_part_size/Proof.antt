@@ -1,5 +1,4 @@
 -- The head of a map, an identifier's pairs, and one more of a delete marker.
-use mathlib.Core.Path.{sym}
 use native.Mathlib.Omega.{arith}
 use borrow.Author.Needs.{needs}
 use Rattle.identifier.specs.Identity.{Identity, identity}
