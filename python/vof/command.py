@@ -95,7 +95,7 @@ class Walk:
         for at in range(0, len(pack), PART):
             for entry in pipe.feed(pack[at : at + PART]):
                 yield entry, pack[entry.start : end(entry)]
-            self.done = at + PART
+            self.done = min(at + PART, len(pack))
         pipe.end()
 
     def streamed(self) -> Iterator[Tuple[vof.Entry, Optional[Data]]]:
