@@ -1,8 +1,9 @@
 /* LTFS-VOF packs, read and written by proved functions: link libvof.a or libvof.so, which
    bin/build-library makes.
 
-   Every input has an answer: a result, or a refusal with a number from 1 to 22.
-   docs/REFUSALS.md says what each number means and what to do about it.
+   Every input has an answer: a result, or a refusal with a number. The numbers have names,
+   VOF_REFUSED_.., and vof_reason says in a few words what each means; docs/REFUSALS.md, or the
+   command `vof refusal`, what to do about it.
 
    Each function but vof_version and vof_xxh64 answers number + 256 * word, which vof_number and
    vof_word take apart. The number is that of the refusal, or 0. The word is 0 where nothing else is
@@ -46,14 +47,102 @@ enum {
     VOF_TAG_PACK_LIST = 0x6F6C
 };
 
+/* The bytes of a record before its value, and of a ULID; the longest bucket, object and composite
+   text, `ULID:bucket/object`. */
 enum {
+    VOF_HEADER_LENGTH = 32,
     VOF_ULID_LENGTH = 26,
-    /* The longest composite text, `ULID:bucket/object`. */
-    VOF_COMPOSITE_LENGTH = 1115
+    VOF_BUCKET_LIMIT = 63,
+    VOF_OBJECT_LIMIT = 1024,
+    VOF_COMPOSITE_LIMIT = 1115
 };
+
+/* The longest pack. */
+#define VOF_PACK_LIMIT UINT64_C(4294967295)
 
 /* The XXH64 of the bytes, seed 0. */
 uint64_t vof_xxh64(const uint8_t *data, size_t data_length);
+
+/* ---- refusals
+
+   Made from docs/REFUSALS.md by tests/refusals.py: change that, and run it. */
+
+enum {
+    VOF_REFUSED_PACK_TOO_LONG = 1,
+    VOF_REFUSED_RECORD_CUT = 2,
+    VOF_REFUSED_NO_RECORD = 3,
+    VOF_REFUSED_FORMAT_VERSION = 4,
+    VOF_REFUSED_HASH_TYPE = 5,
+    VOF_REFUSED_HEADER_DAMAGED = 6,
+    VOF_REFUSED_VALUE_CUT = 7,
+    VOF_REFUSED_VALUE_DAMAGED = 8,
+    VOF_REFUSED_VALUE_NO_ITEM = 9,
+    VOF_REFUSED_VALUE_TOO_DEEP = 10,
+    VOF_REFUSED_HEADER_NOT_DESCRIBED = 11,
+    VOF_REFUSED_VALUE_NOT_FILLED = 12,
+    VOF_REFUSED_TAG_UNKNOWN = 13,
+    VOF_REFUSED_STRUCTURE_VERSION = 14,
+    VOF_REFUSED_PRIMARY_ENCODED = 15,
+    VOF_REFUSED_PRIMARY_NO_ITEM = 16,
+    VOF_REFUSED_PRIMARY_NOT_DESCRIBED = 17,
+    VOF_REFUSED_NAME_BREAKS_RULES = 18,
+    VOF_REFUSED_NO_ROOM = 19,
+    VOF_REFUSED_NOT_ADMITTED = 20,
+    VOF_REFUSED_RANGE_IMPOSSIBLE = 21,
+    VOF_REFUSED_KEY_REPEATED = 22
+};
+
+/* Why it was refused, by the number. */
+static inline const char *vof_reason(unsigned number) {
+    switch (number) {
+    case VOF_REFUSED_PACK_TOO_LONG:
+        return "the pack is too long";
+    case VOF_REFUSED_RECORD_CUT:
+        return "fewer than 32 bytes are left, too few for a record";
+    case VOF_REFUSED_NO_RECORD:
+        return "no record begins here";
+    case VOF_REFUSED_FORMAT_VERSION:
+        return "the format's version is not 0";
+    case VOF_REFUSED_HASH_TYPE:
+        return "the hash is of another type than XXH64";
+    case VOF_REFUSED_HEADER_DAMAGED:
+        return "the record's header is damaged: its hash differs";
+    case VOF_REFUSED_VALUE_CUT:
+        return "the pack ends within the record's value";
+    case VOF_REFUSED_VALUE_DAMAGED:
+        return "the record's value is damaged: its hash differs";
+    case VOF_REFUSED_VALUE_NO_ITEM:
+        return "the value begins with no whole MessagePack item";
+    case VOF_REFUSED_VALUE_TOO_DEEP:
+        return "the value is nested deeper than 16";
+    case VOF_REFUSED_HEADER_NOT_DESCRIBED:
+        return "the value's header is not as described";
+    case VOF_REFUSED_VALUE_NOT_FILLED:
+        return "the header and the secondary part do not fill the value";
+    case VOF_REFUSED_TAG_UNKNOWN:
+        return "the record's tag is unknown";
+    case VOF_REFUSED_STRUCTURE_VERSION:
+        return "the version of the value's structure is not 0";
+    case VOF_REFUSED_PRIMARY_ENCODED:
+        return "the primary part is encrypted or compressed";
+    case VOF_REFUSED_PRIMARY_NO_ITEM:
+        return "the primary part is not one whole MessagePack item, or is nested deeper than 16";
+    case VOF_REFUSED_PRIMARY_NOT_DESCRIBED:
+        return "the primary part lacks a key, or has a wrong type";
+    case VOF_REFUSED_NAME_BREAKS_RULES:
+        return "a ULID, bucket or object breaks the rules";
+    case VOF_REFUSED_NO_ROOM:
+        return "what was lent is too short for the result";
+    case VOF_REFUSED_NOT_ADMITTED:
+        return "what was handed in is not admitted";
+    case VOF_REFUSED_RANGE_IMPOSSIBLE:
+        return "a pack list has a range or lengths that cannot be";
+    case VOF_REFUSED_KEY_REPEATED:
+        return "a key that is read is given twice";
+    default:
+        return "no refusal has this number";
+    }
+}
 
 /* ---- reading */
 
@@ -110,7 +199,7 @@ enum {
    `told` then has VOF_RECORD_NUMBERS numbers, and `id` the identifier's composite text, whose
    length is one of them; both keep the rest.
    Refusals: 20 where the place is not inside the pack; 1 to 8, with the place; 9 to 18, 21 and 22;
-   19 where `told` or `id` is too short. VOF_COMPOSITE_LENGTH bytes suffice for any `id`. */
+   19 where `told` or `id` is too short. VOF_COMPOSITE_LIMIT bytes suffice for any `id`. */
 uint64_t vof_record(const uint8_t *pack, size_t pack_length, size_t at, uint64_t *told,
                     size_t told_length, uint8_t *id, size_t id_length);
 
@@ -191,7 +280,7 @@ uint64_t vof_explain(const uint8_t *pack, size_t pack_length, const uint8_t *buc
    too. */
 
 /* The longest pack that is taken in parts. */
-#define VOF_PIPE_LIMIT ((uint64_t)1 << 40)
+#define VOF_PIPE_LIMIT UINT64_C(1099511627776)
 
 /* How many numbers the state of a pipe has: all that is kept between calls, however long the pack.
    The caller lends it, and hands it over unchanged with the next part. It may be copied, and gone
@@ -269,13 +358,13 @@ uint64_t vof_pipe_end(uint64_t *state, size_t state_length);
    pack. The functions here read its primary part, which vof_record tells the place of. */
 
 /* What vof_pack_list tells of each entry. The pack's ULID has VOF_ULID_LENGTH bytes, and starts at
-   a place of the primary part; the pack range is counted in bytes of that pack. */
+   a place of the primary part; the stored range is counted in bytes of that pack. */
 enum {
     VOF_PACK_LIST_ULID_START,
     VOF_PACK_LIST_SOURCE_START,
     VOF_PACK_LIST_SOURCE_LENGTH,
-    VOF_PACK_LIST_PACK_START,
-    VOF_PACK_LIST_PACK_LENGTH,
+    VOF_PACK_LIST_STORED_START,
+    VOF_PACK_LIST_STORED_LENGTH,
     VOF_PACK_LIST_BLOCKS,
     VOF_PACK_LIST_NUMBERS
 };
@@ -292,7 +381,7 @@ enum {
     /* In no entry; the other numbers are 0 too. */
     VOF_FOUND_NOWHERE,
     /* In an entry whose lengths place it in no block: the block is told as 0, and the stored range
-       is the entry's pack range. */
+       is the entry's. */
     VOF_FOUND_ENTRY,
     VOF_FOUND_BLOCK
 };
@@ -321,7 +410,7 @@ uint64_t vof_find_block(const uint8_t *primary, size_t primary_length, uint64_t 
 
 /* ---- writing
 
-   Each call is told how many bytes at the front of `buf` are the pack so far, 0 at first, and puts
+   Each vof_write_.. is told how many bytes at the front of `buf` are the pack so far, 0 at first, and puts
    one record directly after them. These bytes are not looked at, and every other byte keeps its
    content.
    Word: the new count.
@@ -331,6 +420,19 @@ uint64_t vof_find_block(const uint8_t *primary, size_t primary_length, uint64_t 
 /* A block with this data. `id` is the composite text. */
 uint64_t vof_write_block(uint8_t *buf, size_t buf_length, size_t used, const uint8_t *id,
                          size_t id_length, const uint8_t *data, size_t data_length);
+
+/* The longest primary part that vof_version_part makes. */
+enum {
+    VOF_VERSION_PART_LIMIT = 1129
+};
+
+/* The primary part of a version with this identifier, as composite text, for vof_write_version;
+   of a delete marker where the last number is not 0. It is put at the front of `part`, and the
+   other bytes keep their content.
+   Word: its length.
+   Refusals: 20 where the identifier breaks the rules; 19 where it does not fit into `part`. */
+uint64_t vof_version_part(uint8_t *part, size_t part_length, const uint8_t *id, size_t id_length,
+                          uint64_t is_delete_marker);
 
 /* A version with this primary part, which must read as one (16 to 18, 22). */
 uint64_t vof_write_version(uint8_t *buf, size_t buf_length, size_t used, const uint8_t *primary,

@@ -8,6 +8,8 @@ import sys
 import tempfile
 import time
 
+from cases import Cases
+
 ROOT = os.path.join(os.path.dirname(os.path.abspath(__file__)), "..")
 # What the programs read at most.
 LIMIT = 65536
@@ -27,22 +29,16 @@ def broken(data):
     return theirs
 
 
-class Program:
+class Program(Cases):
     """A built program, and how many cases were tried on it."""
 
     def __init__(self, title, crate):
         options = argparse.ArgumentParser(description="Tests of the program %s." % crate)
         options.add_argument("--program", default=os.path.join(ROOT, "target", "bin", crate))
-        self.title, self.path = title, os.path.abspath(options.parse_args().program)
-        self.cases = self.failures = 0
+        super().__init__(title)
+        self.path = os.path.abspath(options.parse_args().program)
         if not os.access(self.path, os.X_OK):
             sys.exit("%s: no program to test; rt check %s builds it" % (title, crate))
-
-    def check(self, name, right, told):
-        self.cases += 1
-        if not right:
-            self.failures += 1
-            print("%s: %s: %s" % (self.title, name, told))
 
     def start(self, stdin, *arguments, **more):
         pipe = subprocess.PIPE
@@ -128,9 +124,3 @@ class Program:
         told = "samples/make does not make samples/%s.pack" % name
         self.check("samples/%s.pack" % name, made == stored, told)
         return stored
-
-    def end(self):
-        if self.failures:
-            print("%s: %d of %d cases failed" % (self.title, self.failures, self.cases))
-            sys.exit(1)
-        print("%s: %d cases passed" % (self.title, self.cases))

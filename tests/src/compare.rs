@@ -41,6 +41,7 @@ fn alone(number: Number) -> Refusal {
     Refusal {
         number,
         place: None,
+        because: None,
     }
 }
 
@@ -79,6 +80,7 @@ pub enum Function {
     PackList,
     FindBlock,
     WriteBlock,
+    VersionPart,
     WriteVersion,
     WriteDelete,
     WritePackList,
@@ -86,7 +88,7 @@ pub enum Function {
 }
 
 /// The numbers that each function can answer, 0 where it does not refuse.
-const NUMBERS: [(Function, &[usize]); 16] = [
+const NUMBERS: [(Function, &[usize]); 17] = [
     (Function::Scan, &[0, 1, 2, 3, 4, 5, 6, 7, 8, 19]),
     (Function::FindHash, &[0, 20]),
     (Function::Value, &[0, 9, 10, 11, 12, 19, 22]),
@@ -114,6 +116,7 @@ const NUMBERS: [(Function, &[usize]); 16] = [
     (Function::PackList, &[0, 16, 17, 18, 19, 21, 22]),
     (Function::FindBlock, &[0, 16, 17, 18, 19, 21, 22]),
     (Function::WriteBlock, &[0, 19, 20]),
+    (Function::VersionPart, &[0, 19, 20]),
     (Function::WriteVersion, &[0, 19, 20]),
     (Function::WriteDelete, &[0, 19, 20]),
     (Function::WritePackList, &[0, 19, 20]),
@@ -222,11 +225,12 @@ impl Compare {
         let rooms = [exact, exact.saturating_sub(1), 0, exact + 1, exact + 7].map(|n| (n, 0));
         let call = |words: &mut [u64], _: &mut [u8]| raw::scan(pack, words);
         self.lent(Function::Scan, &[pack], &wanted, &rooms, call);
-        let mut entries = vec![vof::Entry::default(); exact / 4];
-        let safe = vof::scan(pack, &mut entries);
-        let same = safe == plain.map(|entries| entries.len());
+        let safe = vof::scan(pack);
+        let entries = safe.clone().unwrap_or_default();
+        let words: Vec<u64> = entries.iter().flat_map(safe_entry_words).collect();
+        let same = safe.map(|_| ()) == plain.map(|_| ()) && words == wanted.words;
         self.hold("the safe scan", &[pack], same);
-        let hashes: Vec<u64> = entries.iter().map(|entry| entry.hash).collect();
+        let hashes: Vec<u64> = entries.iter().map(|entry| entry.value_hash).collect();
         for hash in [
             hashes.first(),
             hashes.last(),
@@ -275,7 +279,7 @@ impl Compare {
         let rooms = [10, 9, 0, 13].map(|n| (n, 0));
         let call = |words: &mut [u64], _: &mut [u8]| raw::value(value, words);
         self.lent(Function::Value, &[value], &wanted, &rooms, call);
-        let same = vof::value(value).map(|read| read.version) == plain.map(|read| read.v);
+        let same = vof::value(value).map(|read| read.structure_version) == plain.map(|read| read.v);
         self.hold("the safe value", &[value], same);
     }
 
@@ -303,9 +307,8 @@ impl Compare {
         let call = |words: &mut [u64], bytes: &mut [u8]| raw::record(pack, at, words, bytes);
         let place = at.to_be_bytes();
         self.lent(Function::Record, &[pack, &place], &wanted, &rooms, call);
-        let mut identifier = [0; vof::IDENTIFIER_LIMIT];
-        let safe = vof::record(pack, at, &mut identifier);
-        let same = safe.map(|record| record.bytes) == plain.map(|record| record.bytes);
+        let safe = vof::record(pack, at as u64);
+        let same = safe.map(|record| record.value) == plain.map(|record| record.bytes);
         self.hold("the safe record", &[pack, &place], same);
     }
 
@@ -330,7 +333,7 @@ impl Compare {
         let call =
             |words: &mut [u64], ulid: &mut [u8]| raw::current(pack, bucket, object, words, ulid);
         self.lent(Function::Current, &inputs, &wanted, &rooms, call);
-        let safe = vof::current(pack, bucket, object).map(|found| found.map(|it| it.bytes));
+        let safe = vof::current(pack, bucket, object).map(|found| found.map(|it| it.value));
         let same = safe == plain.map(|found| found.map(|it| it.value));
         self.hold("the safe current version", &inputs, same);
     }
@@ -351,9 +354,9 @@ impl Compare {
         let inputs = [pack, bucket, object];
         let call = |words: &mut [u64], _: &mut [u8]| raw::explain(pack, bucket, object, words);
         self.lent(Function::Explain, &inputs, &wanted, &rooms, call);
-        let mut lines = vec![vof::Line::default(); exact / 3];
-        let safe = vof::explain(pack, bucket, object, &mut lines);
-        let same = safe == plain.map(|lines| lines.len());
+        let safe = vof::explain(pack, bucket, object);
+        let word = |line: &vof::Line| [line.start, line.reason as u64, line.place];
+        let same = safe.map(|lines| lines.iter().map(word).collect::<Vec<_>>()) == plain;
         self.hold("the safe explanation", &inputs, same);
     }
 
@@ -378,8 +381,7 @@ impl Compare {
         let rooms = [exact, exact.saturating_sub(1), 0, exact + 1, exact + 7].map(|n| (n, 0));
         let call = |words: &mut [u64], _: &mut [u8]| raw::pack_list(primary, words);
         self.lent(Function::PackList, &[primary], &wanted, &rooms, call);
-        let mut entries = vec![vof::PackEntry::default(); exact / 6];
-        let safe = vof::pack_list(primary, &mut entries);
+        let safe = vof::pack_list(primary).map(|entries| entries.len());
         let same = safe == plain.map(|list| list.entries.len());
         self.hold("the safe pack list", &[primary], same);
     }
@@ -406,14 +408,15 @@ impl Compare {
         self.hold("the safe block", &inputs, same);
     }
 
-    /// A call of the writer, with buffers around the length that is needed. None: it is 20.
+    /// A call of the writer, with buffers around the length that is needed.
     fn write(
         &mut self,
         function: Function,
         inputs: &[&[u8]],
         used: usize,
-        record: Option<Vec<u8>>,
+        record: Result<Vec<u8>, Number>,
         call: impl Fn(&mut [u8]) -> u64,
+        safe: impl Fn(&mut [u8]) -> Result<usize, Refusal>,
     ) {
         self.inputs += 1;
         let length = record.as_ref().map_or(100, Vec::len);
@@ -432,59 +435,129 @@ impl Compare {
                 self.fail(&format!("{function:?}"), inputs, told);
             }
         }
+        let same = safe(&mut pattern_bytes(exact)) == written(&record, used, exact);
+        self.hold("the safe write", inputs, same);
     }
 
     pub fn write_block(&mut self, used: usize, identifier: &[u8], data: &[u8]) {
-        let record = writer::block(identifier, data).ok();
-        let call = |buffer: &mut [u8]| raw::write_block(buffer, used, identifier, data);
         self.write(
             Function::WriteBlock,
             &[identifier, data],
             used,
-            record,
-            call,
+            writer::block(identifier, data),
+            |buffer| raw::write_block(buffer, used, identifier, data),
+            |buffer| vof::write_block(buffer, used, identifier, data),
         );
     }
 
+    /// A version's primary part, made as the number asks for it, and the version that is written with it,
+    /// which reads back.
+    pub fn version_of(&mut self, used: usize, identifier: &[u8], marker: u64) {
+        self.inputs += 1;
+        let is_delete_marker = marker != 0;
+        let plain = writer::version_part(identifier, is_delete_marker);
+        let wanted = match &plain {
+            Err(_) => Wanted::refused(alone(20)),
+            Ok(part) => Wanted {
+                answer: 256 * part.len() as u64,
+                words: Vec::new(),
+                bytes: part.clone(),
+            },
+        };
+        let exact = wanted.bytes.len();
+        let rooms = [exact, exact.saturating_sub(1), 0, exact + 1, exact + 70].map(|n| (0, n));
+        let number = marker.to_be_bytes();
+        let inputs = [identifier, &number];
+        let call = |_: &mut [u64], part: &mut [u8]| raw::version_part(part, identifier, marker);
+        self.lent(Function::VersionPart, &inputs, &wanted, &rooms, call);
+        let safe = vof::version_part(identifier, is_delete_marker);
+        let same = safe == plain.clone().map_err(not_admitted);
+        self.hold("the safe part", &inputs, same);
+        let record = plain.map(|part| writer::with_primary(b"vr", &part));
+        let mut buffer = pattern_bytes(vof::HEADER_LENGTH + 6 + exact);
+        let safe = vof::write_version_of(&mut buffer, used, identifier, is_delete_marker);
+        let same = safe == written(&record, used, buffer.len());
+        self.hold("the version of an identifier", &inputs, same);
+        if let Ok(count) = safe {
+            let read = vof::record(&buffer[..count], used as u64).unwrap();
+            let same = read.identifier.composite() == identifier;
+            let same = same && read.is_delete_marker == is_delete_marker;
+            self.hold("the version reads back", &inputs, same);
+        }
+    }
+
     pub fn write_version(&mut self, used: usize, primary: &[u8]) {
-        let record = writer::version(primary).ok();
-        let call = |buffer: &mut [u8]| raw::write_version(buffer, used, primary);
-        self.write(Function::WriteVersion, &[primary], used, record, call);
+        self.write(
+            Function::WriteVersion,
+            &[primary],
+            used,
+            writer::version(primary),
+            |buffer| raw::write_version(buffer, used, primary),
+            |buffer| vof::write_version(buffer, used, primary),
+        );
     }
 
     pub fn write_delete(&mut self, used: usize, primary: &[u8]) {
-        let record = writer::delete(primary).ok();
-        let call = |buffer: &mut [u8]| raw::write_delete(buffer, used, primary);
-        self.write(Function::WriteDelete, &[primary], used, record, call);
+        self.write(
+            Function::WriteDelete,
+            &[primary],
+            used,
+            writer::delete(primary),
+            |buffer| raw::write_delete(buffer, used, primary),
+            |buffer| vof::write_delete(buffer, used, primary),
+        );
     }
 
     pub fn write_pack_list(&mut self, used: usize, primary: &[u8]) {
-        let record = writer::pack_list(primary).ok();
-        let call = |buffer: &mut [u8]| raw::write_pack_list(buffer, used, primary);
-        self.write(Function::WritePackList, &[primary], used, record, call);
+        self.write(
+            Function::WritePackList,
+            &[primary],
+            used,
+            writer::pack_list(primary),
+            |buffer| raw::write_pack_list(buffer, used, primary),
+            |buffer| vof::write_pack_list(buffer, used, primary),
+        );
     }
 
     pub fn write_delete_of(&mut self, used: usize, identifier: &[u8], delete_ulid: &[u8]) {
-        let record = writer::delete_of(identifier, delete_ulid).ok();
-        let call = |buffer: &mut [u8]| raw::write_delete_of(buffer, used, identifier, delete_ulid);
-        let inputs = [identifier, delete_ulid];
-        self.write(Function::WriteDeleteOf, &inputs, used, record, call);
+        self.write(
+            Function::WriteDeleteOf,
+            &[identifier, delete_ulid],
+            used,
+            writer::delete_of(identifier, delete_ulid),
+            |buffer| raw::write_delete_of(buffer, used, identifier, delete_ulid),
+            |buffer| vof::write_delete_of(buffer, used, identifier, delete_ulid),
+        );
     }
 }
 
-/// The answer of a write, and the buffer after it.
-fn after_write(record: &Option<Vec<u8>>, used: usize, room: usize) -> (u64, Vec<u8>) {
-    let mut buffer = pattern_bytes(room);
-    let Some(record) = record else {
-        return (20, buffer);
-    };
-    match writer::count(record.len(), used, room) {
-        Err(number) => (u64::from(number), buffer),
-        Ok(count) => {
-            buffer[used..count].copy_from_slice(record);
-            (256 * count as u64, buffer)
-        }
+/// 20, because of what a reader would say.
+fn not_admitted(because: Number) -> Refusal {
+    Refusal {
+        because: Some(because),
+        ..alone(20)
     }
+}
+
+/// The new count, or why there is none: of what is not admitted what a reader would say, or that the pack is
+/// full.
+fn written(record: &Result<Vec<u8>, Number>, used: usize, room: usize) -> Result<usize, Refusal> {
+    let record = record.as_ref().map_err(|&number| not_admitted(number))?;
+    writer::count(record.len(), used, room).map_err(|number| match number {
+        20 => not_admitted(1),
+        number => alone(number),
+    })
+}
+
+/// The answer of a write, and the buffer after it.
+fn after_write(record: &Result<Vec<u8>, Number>, used: usize, room: usize) -> (u64, Vec<u8>) {
+    let mut buffer = pattern_bytes(room);
+    let (count, record) = match (written(record, used, room), record) {
+        (Ok(count), Ok(record)) => (count, record),
+        (refused, _) => return (refused.unwrap_err().number.into(), buffer),
+    };
+    buffer[used..count].copy_from_slice(record);
+    (256 * count as u64, buffer)
 }
 
 fn number(tag: [u8; 2]) -> u64 {
@@ -494,6 +567,11 @@ fn number(tag: [u8; 2]) -> u64 {
 fn entry_words(&(start, tag, value): &(usize, [u8; 2], &[u8])) -> [u64; 4] {
     let hash = crate::plain::xxh64::xxh64(value);
     [start as u64, number(tag), value.len() as u64, hash]
+}
+
+fn safe_entry_words(entry: &vof::Entry) -> [u64; 4] {
+    let tag = u16::from_be_bytes(entry.tag.bytes()).into();
+    [entry.start, tag, entry.value_length, entry.value_hash]
 }
 
 /// The nine numbers of a value's parts; `base`: where the value starts.

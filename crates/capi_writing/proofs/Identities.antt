@@ -11,7 +11,7 @@ use Rattle.identifier.specs.Identity.{Identity, identity, isValid, sizes}
 use Rattle.identifier.specs.Composite.{identityIn, reads-text}
 use Rattle.identifier.specs.Held.{named, answered, zeros, named-held}
 use Rattle.identifier.specs.declared.Reading.{Reading}
-use Rattle.writer.specs.Writing.{Item, admitted, ofIdentity, answerOf, written, bufferAfter}
+use Rattle.writer.specs.Writing.{Item, admitted, ofIdentity, answerOf, written, bufferAfter, versionPartOf}
 use Rattle.writer.specs.declared.Written.{Written}
 
 -- two requests that the writer answers alike, and that leave the buffer alike
@@ -52,3 +52,13 @@ module _ (item : Identity → Item) (refuses : (i : Identity) → isValid i ≡ 
   by-text r read w told after holds =
       let same = same-call (identityIn t) refl in
       ((rw read at told) ∙ same .answer, (rw read at holds) ∙ same .buffer)
+
+module _ (marker : Bool) (t : List ℕ) where
+  same-part : (x : Option Identity) → identityIn t ≡ x → versionPartOf marker (named (answered x .id)) ≡ versionPartOf marker x
+  unfolding answered
+  same-part (some i) e = rw (named-held i (sizes i (reads-text t i e .0))) refl
+  same-part none e = rw (zeros-named, zeros-invalid) refl
+
+  -- the part that was made is the one asked for by the text
+  pub part-by-text : (r : Reading) → r ≡ answered (identityIn t) → versionPartOf marker (named (r .id)) ≡ versionPartOf marker (identityIn t)
+  part-by-text r read = rw read (same-part (identityIn t) refl)

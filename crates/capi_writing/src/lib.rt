@@ -1,12 +1,13 @@
-// For C, Rust and Python: records written, one a call. Every answer holds the new count. A text that is
-// no identifier reads as zeros, which the writer refuses.
+// For C, Rust and Python: records written, one a call, and a version's primary part alone. Every answer
+// holds the new count, or the part's length. A text that is no identifier reads as zeros, which the writer
+// refuses.
 ghost use mathlib.Core.Path.{_≡_};
 ghost use mathlib.Core.Option.{some};
 ghost use lib.ListN.{length};
 ghost use Rattle.refusals.specs.Limit.{packLimit};
 ghost use Rattle.identifier.specs.Composite.{identityIn};
-ghost use Rattle.writer.specs.Writing.{block, version, versionDelete, packList, deletion, ofIdentity, answerOf, written, bufferAfter};
-ghost use Rattle.capi_writing.specs.Write.{writtenWord, CountWithin};
+ghost use Rattle.writer.specs.Writing.{block, version, versionDelete, packList, deletion, ofIdentity, answerOf, written, bufferAfter, versionPartOf, partWritten, partAfter};
+ghost use Rattle.capi_writing.specs.Write.{writtenWord, CountWithin, isSet};
 use writer::Written;
 
 fn word_of(written: Written) -> u64
@@ -78,4 +79,16 @@ pub extern "C" fn vof_write_delete_of(
     let read = identifier::read_composite(id);
     let identifier = read.id;
     word_of(writer::write_delete_of(buf, used, identifier, deleteid))
+}
+
+// The primary part of a version, made from the composite text of its identifier; it is a delete marker
+// unless the number is 0.
+#[no_mangle]
+pub extern "C" fn vof_version_part(out: &mut [u8], id: &[u8], marker: u64) -> u64
+    ensures answer { λ r. ⌜ r ≡ writtenWord (partWritten (length (now (out .entry))) (versionPartOf (isSet marker) (identityIn (now (id .entry))))) ⌝ }
+    ensures buffer { λ _. ⌜ now (out .exit) ≡ partAfter (versionPartOf (isSet marker) (identityIn (now (id .entry)))) (now (out .entry)) ⌝ }
+{
+    let read = identifier::read_composite(id);
+    let identifier = read.id;
+    word_of(writer::write_version_part(out, identifier, marker != 0))
 }

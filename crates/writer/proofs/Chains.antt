@@ -2,7 +2,7 @@
 use Prim.Native.Nat.{ℕ, _+_, _≤_}
 use mathlib.Core.List.{List, _++_, append-assoc}
 use mathlib.Core.Option.{Option}
-use mathlib.Core.Path.{_≡_, refl, sym, ap, _∙_}
+use mathlib.Core.Path.{_≡_, refl, sym, ap, subst, _∙_}
 use native.Mathlib.Omega.{arith}
 use borrow.Author.Tests.{le-leb}
 use lib.ListN.{length, take, drop, length-append}
@@ -34,6 +34,9 @@ module _ {g : List ℕ} (e f : List ℕ) (same : e ++ f ≡ g) where
         left = q .left ∙ rw (p .left, p .place, ← same) (overwritten-more s at e f k);
         place = omega (arith, lengths, p .place, q .place);
       }
+
+pub puts-same : {s e g t : List ℕ} {at n : ℕ} → e ≡ g → Puts s at e t n → Puts s at g t n
+puts-same {s} {e} {g} {t} {at} {n} same p = subst (λ x. Puts s at x t n) same p
 
 -- bytes that were written where they fit, and a head with the place that it told
 pub bytes-put : {s e t : List ℕ} {at n : ℕ} → t ≡ writtenBytes s at e → n ≡ at + length e → at + length e ≤ length s → Puts s at e t n

@@ -1,6 +1,7 @@
 -- The values, with their fixed bytes written out as the code has them, and how long they are.
 use Prim.Native.Nat.{ℕ, _+_}
-use mathlib.Core.List.{List, [], _∷_, _++_}
+use mathlib.Core.Bool.{Bool, true, false}
+use mathlib.Core.List.{List, [], _∷_, _++_, flatten, append-assoc, append-nil}
 use mathlib.Core.Path.{_≡_, refl, ap, _∙_}
 use native.Mathlib.Omega.{arith}
 use lib.ListN.{length, length-append}
@@ -9,7 +10,8 @@ use Rattle.msgpack_heads.specs.Heads.{textForm, containerForm, textHead, binary
 use Rattle.identifier.specs.Identity.{Identity}
 use Rattle.identifier.specs.Composite.{compositeText}
 use Rattle.primary.specs.Parts.{bucketKey, objectKey, ulidKey, deleteIdKey}
-use Rattle.writer.specs.Values.{textItem, pair, primaryHeader, secondaryHeader, blockHeader, partHeader, blockPart, blockValue, partValue, identityPairs, deletePart}
+use Rattle.writer.specs.Limits.{length-headed}
+use Rattle.writer.specs.Values.{textItem, pair, primaryHeader, secondaryHeader, blockHeader, partHeader, blockPart, blockValue, partValue, mapItem, identityPairs, versionPart, deletePart}
 
 -- ---- the bytes
 
@@ -25,8 +27,8 @@ partStart = 0x81 ∷ []
 abbrev pub blockPartStart : List ℕ
 blockPartStart = 0x81 ∷ 0xa1 ∷ 0x49 ∷ []
 
-abbrev pub deletePartStart : List ℕ
-deletePartStart = 0x84 ∷ []
+abbrev pub markerBytes : List ℕ
+markerBytes = 0xa1 ∷ 0x64 ∷ 0xc3 ∷ []
 
 pub secondary : (l : ℕ) → secondaryStart ++ unsignedInteger l ≡ mapHead 2 ++ secondaryHeader l
 unfolding secondaryHeader textItem containerForm textForm bigBytes littleBytes
@@ -44,9 +46,32 @@ pub block-part : (i : Identity) → blockPartStart ++ textItem (compositeText i)
 unfolding blockPart pair textItem containerForm textForm bigBytes littleBytes
 block-part i = refl
 
-pub delete-part : (i : Identity) (u : List ℕ) → deletePartStart ++ identityPairs i ++ pair deleteIdKey u ≡ deletePart i u
-unfolding deletePart containerForm bigBytes littleBytes
-delete-part i u = refl
+-- an identifier's pairs behind the head of a map, and the maps that begin with them
+
+pub identity-pairs : (n : ℕ) (i : Identity)
+    → mapHead n ++ pair bucketKey (i .bucket) ++ pair objectKey (i .object) ++ pair ulidKey (i .ulid) ≡ mapHead n ++ flatten (identityPairs i)
+unfolding flatten
+identity-pairs n i = simp (append-assoc, append-nil)
+
+one-more : (head b o v more : List ℕ) → head ++ flatten (b ∷ o ∷ v ∷ []) ++ more ≡ head ++ flatten (b ∷ o ∷ v ∷ more ∷ [])
+unfolding flatten
+one-more head b o v more = simp (append-assoc, append-nil)
+
+identity-map : (i : Identity) (more : List ℕ) → mapHead 4 ++ flatten (identityPairs i) ++ more ≡ mapItem (identityPairs i ++ (more ∷ []))
+unfolding mapItem
+identity-map i more = one-more (mapHead 4) (pair bucketKey (i .bucket)) (pair objectKey (i .object)) (pair ulidKey (i .ulid)) more
+
+pub version-part : (i : Identity) (marker : Bool) → marker ≡ false → mapHead 3 ++ flatten (identityPairs i) ≡ versionPart i marker
+unfolding versionPart mapItem
+version-part i marker e = rw e refl
+
+pub marker-part : (i : Identity) (marker : Bool) → marker ≡ true → mapHead 4 ++ flatten (identityPairs i) ++ markerBytes ≡ versionPart i marker
+unfolding versionPart textItem textForm bigBytes littleBytes
+marker-part i marker e = rw e (identity-map i markerBytes)
+
+pub delete-part : (i : Identity) (u : List ℕ) → mapHead 4 ++ flatten (identityPairs i) ++ pair deleteIdKey u ≡ deletePart i u
+unfolding deletePart
+delete-part i u = identity-map i (pair deleteIdKey u)
 
 -- with the length of the primary part as it was computed
 
@@ -96,7 +121,21 @@ part-value-size p part n e f =
     = omega (arith, length-append (partHeader (length p)) p, ap length (part-header (length p)), length-primary (length p)) in
     f ∙ rw e whole
 
-pub length-delete-part : (i : Identity) (u : List ℕ)
-    → 1 + (length (pair bucketKey (i .bucket)) + length (pair objectKey (i .object))) + length (pair ulidKey (i .ulid)) + length (pair deleteIdKey u) ≡ length (deletePart i u)
-unfolding identityPairs
-length-delete-part i u = simp length-append (omega arith) ∙ ap length (delete-part i u)
+pub length-identity : (i : Identity)
+    → length (pair bucketKey (i .bucket)) + length (pair objectKey (i .object)) + length (pair ulidKey (i .ulid)) ≡ length (flatten (identityPairs i))
+unfolding flatten
+length-identity i = simp length-append (omega arith)
+
+pub length-version-part : (i : Identity) (marker : Bool) → marker ≡ false → 1 + length (flatten (identityPairs i)) ≡ length (versionPart i marker)
+length-version-part i marker e = omega (arith, ap length (version-part i marker e), length-headed 3 (flatten (identityPairs i)) (omega arith))
+
+-- one pair more
+length-more : (i : Identity) (more : List ℕ) → 1 + length (flatten (identityPairs i)) + length more ≡ length (mapHead 4 ++ flatten (identityPairs i) ++ more)
+length-more i more =
+    omega (arith, length-headed 4 (flatten (identityPairs i)) (omega arith), length-append (mapHead 4 ++ flatten (identityPairs i)) more)
+
+pub length-marker-part : (i : Identity) (marker : Bool) → marker ≡ true → 1 + length (flatten (identityPairs i)) + 3 ≡ length (versionPart i marker)
+length-marker-part i marker e = length-more i markerBytes ∙ ap length (marker-part i marker e)
+
+pub length-delete-part : (i : Identity) (u : List ℕ) → 1 + length (flatten (identityPairs i)) + length (pair deleteIdKey u) ≡ length (deletePart i u)
+length-delete-part i u = length-more i (pair deleteIdKey u) ∙ ap length (delete-part i u)

@@ -4,4 +4,5 @@ mod Fixed
 mod Composites
 mod Headers
 mod Stores
+mod Parts
 mod Calls

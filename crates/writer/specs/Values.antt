@@ -1,12 +1,13 @@
 -- The values that are written (document 01, "Writing"; docs/FORMAT.md, "What we write"), every head in its shortest form.
 use Prim.Native.Nat.{ℕ}
-use mathlib.Core.List.{List, _++_}
+use mathlib.Core.Bool.{Bool, true, false}
+use mathlib.Core.List.{List, [], _∷_, _++_, flatten}
 use lib.ListN.{length}
 use Rattle.msgpack_heads.specs.Heads.{textHead, binaryHead, unsignedInteger, arrayHead, mapHead}
 use Rattle.identifier.specs.Identity.{Identity}
 use Rattle.identifier.specs.Composite.{compositeText}
 use Rattle.value.specs.Header.{primaryKey, secondaryKey, lengthKey}
-use Rattle.primary.specs.Parts.{bucketKey, objectKey, ulidKey, identifierKey, deleteIdKey}
+use Rattle.primary.specs.Parts.{bucketKey, objectKey, ulidKey, identifierKey, deletedKey, deleteIdKey}
 
 -- ---- items, with their heads
 
@@ -16,6 +17,10 @@ textItem t = textHead (length t) ++ t
 -- a key, and a text under it
 unfoldable pub pair : List ℕ → List ℕ → List ℕ
 pair key t = textItem key ++ textItem t
+
+-- a map, from the bytes of each of its pairs
+unfoldable pub mapItem : List (List ℕ) → List ℕ
+mapItem pairs = mapHead (length pairs) ++ flatten pairs
 
 -- ---- the value's header, up to its primary part of n bytes
 
@@ -48,10 +53,21 @@ blockValue i d = blockHeader (length d) (length (blockPart i)) ++ blockPart i ++
 unfoldable pub partValue : List ℕ → List ℕ
 partValue p = partHeader (length p) ++ p
 
--- `b`, `o`, `v`
-unfoldable pub identityPairs : Identity → List ℕ
-identityPairs i = pair bucketKey (i .bucket) ++ pair objectKey (i .object) ++ pair ulidKey (i .ulid)
+-- ---- the primary parts that are made from an identifier
 
--- the primary part of a version delete that is made from an identifier and a delete ULID
+-- `b`, `o`, `v`
+abbrev pub identityPairs : Identity → List (List ℕ)
+identityPairs i = pair bucketKey (i .bucket) ∷ pair objectKey (i .object) ∷ pair ulidKey (i .ulid) ∷ []
+
+-- `d`, which is true, of a delete marker; no other version has it
+abbrev pub markerPairs : Bool → List (List ℕ)
+markerPairs true = (textItem deletedKey ++ (0xc3 ∷ [])) ∷ []
+markerPairs false = []
+
+-- of a version
+unfoldable pub versionPart : Identity → Bool → List ℕ
+versionPart i marker = mapItem (identityPairs i ++ markerPairs marker)
+
+-- of a version delete, with a delete ULID
 unfoldable pub deletePart : Identity → List ℕ → List ℕ
-deletePart i u = mapHead 4 ++ identityPairs i ++ pair deleteIdKey u
+deletePart i u = mapItem (identityPairs i ++ (pair deleteIdKey u ∷ []))

@@ -15,7 +15,7 @@ use Rattle.identifier.specs.Identity.{Identity, isValid}
 use Rattle.primary.specs.Parts as primary
 use Rattle.pack_list.specs.Lists as list
 use Rattle.records.specs.Record.{blockTag, versionTag, versionDeleteTag, packListTag}
-use Rattle.writer.specs.Values.{blockValue, partValue, deletePart}
+use Rattle.writer.specs.Values.{blockValue, partValue, versionPart, deletePart}
 use Rattle.writer.specs.declared.Written.{Written}
 use Rattle.writer.specs.declared.Written.the-variants.{Count, Short, Inadmissible}
 
@@ -93,3 +93,24 @@ pub record Stores (used : ℕ) (bytes buf : List ℕ) (answer : Written) (after 
 unfoldable pub bufferAfter : ℕ → ℕ → Option Item → List ℕ → List ℕ
 bufferAfter limit used none buf = buf
 bufferAfter limit used (some item) buf = leftBy (written limit (length buf) used (some item)) buf used (itemBytes item)
+
+-- ---- a version's primary part alone, at the front of a lent buffer
+
+-- what an identifier asks for; nothing, where there is none or it is not admitted
+abbrev pub versionPartOf : Bool → Option Identity → Option (List ℕ)
+versionPartOf marker none = none
+versionPartOf marker (some i) = cond (isValid i) (some (versionPart i marker)) none
+
+-- the part's length, or the number of the refusal
+unfoldable pub partWritten : ℕ → Option (List ℕ) → Answer ℕ
+partWritten room none = refused 20
+partWritten room (some part) = cond (leb (length part) room) (result (length part)) (refused 19)
+
+unfoldable pub partAfter : Option (List ℕ) → List ℕ → List ℕ
+partAfter none out = out
+partAfter (some part) out = leftBy (partWritten (length out) (some part)) out 0 part
+
+-- what a call does with a part that is admitted
+pub record StoresPart (part out : List ℕ) (answer : Written) (after : List ℕ) : Type 0 where
+  pub told : answerOf answer ≡ partWritten (length out) (some part)
+  pub left : after ≡ partAfter (some part) out

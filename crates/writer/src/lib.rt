@@ -1,10 +1,11 @@
 // Records written, one a call, each directly after the pack so far at the front of a lent buffer
-// (document 01, "Writing"). The lengths are computed and tested before the first byte is written; then
-// comes the value, and then the header, which takes the value's hash in place.
+// (document 01, "Writing"); and a version's primary part alone. The lengths are computed and tested before
+// the first byte is written; then comes the value, and then the header, which takes the value's hash in
+// place.
 ghost use mathlib.Core.Path.{_≡_};
 ghost use mathlib.Core.Option.{some};
 ghost use mathlib.Core.Bool.{true};
-ghost use mathlib.Core.List.{_++_};
+ghost use mathlib.Core.List.{_++_, flatten};
 ghost use Prim.Native.Nat.{_+_, _≤_, _<_};
 ghost use lib.ListN.{length, take, drop};
 ghost use Rattle.slices.specs.Overwriting.{overwritten};
@@ -17,9 +18,9 @@ ghost use Rattle.identifier.specs.Ulid.{isUlid};
 ghost use Rattle.identifier.specs.Composite.{compositeText};
 ghost use Rattle.identifier.specs.Held.{named};
 ghost use Rattle.records.specs.Record.{blockTag, versionDeleteTag};
-ghost use Rattle.writer.specs.Values.{textItem, pair, primaryHeader, secondaryHeader, blockHeader, partHeader, blockPart, blockValue, partValue, identityPairs, deletePart};
+ghost use Rattle.writer.specs.Values.{textItem, pair, primaryHeader, secondaryHeader, blockHeader, partHeader, blockPart, blockValue, partValue, identityPairs, versionPart, deletePart};
 ghost use Rattle.writer.specs.Putting.{Puts, toldPlace, fieldBytes};
-ghost use Rattle.writer.specs.Writing.{block, version, versionDelete, packList, deletion, recordOf, ofIdentity, answerOf, counted, Stores, written, bufferAfter};
+ghost use Rattle.writer.specs.Writing.{block, version, versionDelete, packList, deletion, recordOf, ofIdentity, answerOf, counted, Stores, written, bufferAfter, versionPartOf, partWritten, partAfter, StoresPart};
 use identifier::Identifier;
 use pack_list::Reading;
 use primary::DeleteRead;
@@ -27,8 +28,7 @@ use primary::VersionRead;
 use tlv::RecordHeader;
 
 // The fixed bytes, in front of what varies: of a block's header, `{s: [{l`; the key `e`; of every other
-// header, the map's head; of a block's primary part, `{I`; of that of a made version delete, the
-// map's head.
+// header, the map's head; of a block's primary part, `{I`; of a delete marker's, `d: true`.
 const SECONDARY: [u8; 7] = [0x82, 0xa1, b's', 0x91, 0x81, 0xa1, b'l'];
 
 const PRIMARY: [u8; 2] = [0xa1, b'e'];
@@ -37,10 +37,10 @@ const PART_HEADER: [u8; 1] = [0x81];
 
 const BLOCK_PART: [u8; 3] = [0x81, 0xa1, b'I'];
 
-const DELETE_PART: [u8; 1] = [0x84];
+const MARKER: [u8; 3] = [0xa1, b'd', 0xc3];
 
-// What a call answers: how many bytes the pack now has; or refusal 19 or 20 of document 01, where
-// nothing was written.
+// What a call answers: how many bytes the pack now has, or a part alone; or refusal 19 or 20 of document
+// 01, where nothing was written.
 pub enum Written {
     Count(usize),
     Short,
@@ -97,13 +97,33 @@ fn block_part_size(ulid: &[u8], bucket: &[u8], object: &[u8]) -> usize
     3 + (text_head_size(text) + text)
 }
 
+// Of the pairs of an identifier.
+fn identity_size(ulid: &[u8], bucket: &[u8], object: &[u8]) -> usize
+    requires { ⌜ isValid (identity (now ulid) (now bucket) (now object)) ≡ true ⌝ }
+    ensures { λ r. ⌜ (r ≡ length (flatten (identityPairs (identity (now (ulid .entry)) (now (bucket .entry)) (now (object .entry))))))
+        × (r ≤ 3111) ⌝ }
+{
+    let names = pair_size(&primary::BUCKET, bucket) + pair_size(&primary::OBJECT, object);
+    names + pair_size(&primary::ULID, ulid)
+}
+
+fn version_part_size(ulid: &[u8], bucket: &[u8], object: &[u8], marker: bool) -> usize
+    requires { ⌜ isValid (identity (now ulid) (now bucket) (now object)) ≡ true ⌝ }
+    ensures { λ r. ⌜ r ≡ length (versionPart (identity (now (ulid .entry)) (now (bucket .entry)) (now (object .entry))) marker) ⌝ }
+{
+    let named = 1 + identity_size(ulid, bucket, object);
+    if marker {
+        return named + 3;
+    }
+    named
+}
+
 fn delete_part_size(ulid: &[u8], bucket: &[u8], object: &[u8], deleteid: &[u8]) -> usize
     requires { ⌜ (isValid (identity (now ulid) (now bucket) (now object)) ≡ true) × (isUlid (now deleteid) ≡ true) ⌝ }
     ensures { λ r. ⌜ (r ≡ length (deletePart (identity (now (ulid .entry)) (now (bucket .entry)) (now (object .entry))) (now (deleteid .entry))))
         × (r ≤ packLimit) ⌝ }
 {
-    let names = pair_size(&primary::BUCKET, bucket) + pair_size(&primary::OBJECT, object);
-    1 + names + pair_size(&primary::ULID, ulid) + pair_size(&primary::DELETE_ID, deleteid)
+    1 + identity_size(ulid, bucket, object) + pair_size(&primary::DELETE_ID, deleteid)
 }
 
 // Of a block's value, from the lengths of its primary part and its data.
@@ -242,15 +262,44 @@ fn put_part_value(out: &mut [u8], at: usize, part: &[u8]) -> usize
     put(out, start, part)
 }
 
-fn put_identity(out: &mut [u8], at: usize, ulid: &[u8], bucket: &[u8], object: &[u8]) -> usize
+// The head of a map of so many pairs, and its first three: those of an identifier.
+fn put_identity(
+    out: &mut [u8],
+    at: usize,
+    pairs: u32,
+    ulid: &[u8],
+    bucket: &[u8],
+    object: &[u8],
+) -> usize
     requires { ⌜ (isValid (identity (now ulid) (now bucket) (now object)) ≡ true)
-        × (at + length (identityPairs (identity (now ulid) (now bucket) (now object))) ≤ length (now out)) ⌝ }
+        × (at + length (mapHead pairs ++ flatten (identityPairs (identity (now ulid) (now bucket) (now object)))) ≤ length (now out)) ⌝ }
     ensures { λ r. ⌜ Puts (now (out .entry)) at
-        (identityPairs (identity (now (ulid .entry)) (now (bucket .entry)) (now (object .entry)))) (now (out .exit)) r ⌝ }
+        (mapHead pairs ++ flatten (identityPairs (identity (now (ulid .entry)) (now (bucket .entry)) (now (object .entry))))) (now (out .exit)) r ⌝ }
 {
-    let o = put_pair(out, at, &primary::BUCKET, bucket);
+    let b = place(msgpack_heads::write_map_head(out, at, pairs));
+    let o = put_pair(out, b, &primary::BUCKET, bucket);
     let v = put_pair(out, o, &primary::OBJECT, object);
     put_pair(out, v, &primary::ULID, ulid)
+}
+
+fn put_version_part(
+    out: &mut [u8],
+    at: usize,
+    ulid: &[u8],
+    bucket: &[u8],
+    object: &[u8],
+    marker: bool,
+) -> usize
+    requires { ⌜ (isValid (identity (now ulid) (now bucket) (now object)) ≡ true)
+        × (at + length (versionPart (identity (now ulid) (now bucket) (now object)) marker) ≤ length (now out)) ⌝ }
+    ensures { λ r. ⌜ Puts (now (out .entry)) at
+        (versionPart (identity (now (ulid .entry)) (now (bucket .entry)) (now (object .entry))) marker) (now (out .exit)) r ⌝ }
+{
+    if !marker {
+        return put_identity(out, at, 3, ulid, bucket, object);
+    }
+    let key = put_identity(out, at, 4, ulid, bucket, object);
+    put(out, key, &MARKER)
 }
 
 fn put_delete_part(
@@ -266,8 +315,7 @@ fn put_delete_part(
     ensures { λ r. ⌜ Puts (now (out .entry)) at
         (deletePart (identity (now (ulid .entry)) (now (bucket .entry)) (now (object .entry))) (now (deleteid .entry))) (now (out .exit)) r ⌝ }
 {
-    let start = put(out, at, &DELETE_PART);
-    let key = put_identity(out, start, ulid, bucket, object);
+    let key = put_identity(out, at, 4, ulid, bucket, object);
     put_pair(out, key, &primary::DELETE_ID, deleteid)
 }
 
@@ -425,6 +473,26 @@ fn store_deletion(
     }
 }
 
+// A version's primary part, at the front of a buffer where it fits.
+fn store_version_part(
+    out: &mut [u8],
+    ulid: &[u8],
+    bucket: &[u8],
+    object: &[u8],
+    marker: bool,
+) -> Written
+    requires { ⌜ isValid (identity (now ulid) (now bucket) (now object)) ≡ true ⌝ }
+    ensures { λ r. ⌜ StoresPart (versionPart (identity (now (ulid .entry)) (now (bucket .entry)) (now (object .entry))) marker)
+        (now (out .entry)) r (now (out .exit)) ⌝ }
+{
+    let n = version_part_size(ulid, bucket, object, marker);
+    if out.len() < n {
+        return Written::Short;
+    }
+    let _ = put_version_part(out, 0, ulid, bucket, object, marker);
+    Written::Count(n)
+}
+
 // ---- one record a call
 
 // A block.
@@ -495,4 +563,22 @@ pub fn write_delete_of(buf: &mut [u8], used: usize, id: Identifier, deleteid: &[
     let bucket = id.bucket;
     let object = id.object;
     store_deletion(buf, used, &ulid, &bucket[..n], &object[..m], deleteid)
+}
+
+// ---- a primary part alone, for the call that writes its record
+
+// A version's, made from its identifier and whether it is a delete marker, at the front of a buffer.
+pub fn write_version_part(out: &mut [u8], id: Identifier, marker: bool) -> Written
+    ensures answer { λ r. ⌜ answerOf r ≡ partWritten (length (now (out .entry))) (versionPartOf marker (named id)) ⌝ }
+    ensures buffer { λ _. ⌜ now (out .exit) ≡ partAfter (versionPartOf marker (named id)) (now (out .entry)) ⌝ }
+{
+    if !identifier::is_admitted(id) {
+        return Written::Inadmissible;
+    }
+    let n = id.bucketlen;
+    let m = id.objectlen;
+    let ulid = id.ulid;
+    let bucket = id.bucket;
+    let object = id.object;
+    store_version_part(out, &ulid, &bucket[..n], &object[..m], marker)
 }

@@ -1,7 +1,7 @@
 -- One record added by a call: it stands directly after the pack so far and reads as what was handed in, and the records before it read as
 -- they did.
 use Prim.Native.Nat.{ℕ, _+_, _^_, _≤_, _<_}
-use mathlib.Core.List.{List, [], _∷_, _++_, append-assoc, append-nil, List·Memᴰ, List·Memᴰ·not-nil, List·Memᴰ·cases-cons}
+use mathlib.Core.List.{List, [], _∷_, _++_, flatten, append-assoc, append-nil, List·Memᴰ, List·Memᴰ·not-nil, List·Memᴰ·cases-cons}
 use mathlib.Core.Logic.{⊎-elim}
 use mathlib.Core.Option.{Option, some}
 use mathlib.Core.Path.{_≡_, sym, ap, subst, subst₂, _∙_}
@@ -30,7 +30,7 @@ use Rattle.records.specs.declared.Record as declared-record
 use Rattle.records.specs.declared.AtPlace as declared-place
 use Rattle.records.specs.declared.AtPlace.the-variants as place-answer
 use Rattle.records_model.specs.Record as held
-use Rattle.writer.specs.Values.{textItem, pair, blockHeader, blockPart, blockValue, partHeader, partValue, identityPairs, deletePart}
+use Rattle.writer.specs.Values.{textItem, pair, mapItem, blockHeader, blockPart, blockValue, partHeader, partValue, identityPairs, deletePart}
 use Rattle.writer.specs.Writing.{Item, block, version, versionDelete, packList, deletion, valueOf, itemBytes, written, bufferAfter}
 use Rattle.writer_laws.specs.Encoded.{IdentityBytes}
 use Rattle.writer_laws.specs.Meaning.{heldOf, AreBytes}
@@ -54,18 +54,26 @@ text-bytes : (key t : List ℕ) → AllBytes (pair key t) → AllBytes t
 unfolding pair textItem
 text-bytes key t b = back-bytes (textHead (length t)) t (back-bytes (textItem key) (textItem t) b)
 
-delete-part-bytes : (i : Identity) (u : List ℕ) → AllBytes (deletePart i u) → IdentityBytes i × AllBytes u
-unfolding deletePart identityPairs
-delete-part-bytes i u b =
-    let pairs = back-bytes (mapHead 4) (identityPairs i) (front-bytes (mapHead 4 ++ identityPairs i) (pair deleteIdKey u) b) in
-    let name = front-bytes (pair bucketKey (i .bucket) ++ pair objectKey (i .object)) (pair ulidKey (i .ulid)) pairs in (
+-- a map that begins with an identifier
+pub identity-map-bytes : (i : Identity) (more : List (List ℕ)) → AllBytes (mapItem (identityPairs i ++ more)) → IdentityBytes i × AllBytes (flatten more)
+unfolding mapItem flatten
+identity-map-bytes i more b =
+    let bucket = back-bytes (mapHead (length (identityPairs i ++ more))) (flatten (identityPairs i ++ more)) b in
+    let object = back-bytes (pair bucketKey (i .bucket)) _ bucket in
+    let ulid = back-bytes (pair objectKey (i .object)) _ object in (
       record {
-        ulid = text-bytes ulidKey (i .ulid) (back-bytes (pair bucketKey (i .bucket) ++ pair objectKey (i .object)) (pair ulidKey (i .ulid)) pairs);
-        bucket = text-bytes bucketKey (i .bucket) (front-bytes (pair bucketKey (i .bucket)) (pair objectKey (i .object)) name);
-        object = text-bytes objectKey (i .object) (back-bytes (pair bucketKey (i .bucket)) (pair objectKey (i .object)) name);
+        ulid = text-bytes ulidKey (i .ulid) (front-bytes (pair ulidKey (i .ulid)) (flatten more) ulid);
+        bucket = text-bytes bucketKey (i .bucket) (front-bytes (pair bucketKey (i .bucket)) _ bucket);
+        object = text-bytes objectKey (i .object) (front-bytes (pair objectKey (i .object)) _ object);
       },
-      text-bytes deleteIdKey u (back-bytes (mapHead 4 ++ identityPairs i) (pair deleteIdKey u) b),
+      back-bytes (pair ulidKey (i .ulid)) (flatten more) ulid,
     )
+
+delete-part-bytes : (i : Identity) (u : List ℕ) → AllBytes (deletePart i u) → IdentityBytes i × AllBytes u
+unfolding deletePart flatten
+delete-part-bytes i u b =
+    let each = identity-map-bytes i (pair deleteIdKey u ∷ []) b in
+    (each .0, text-bytes deleteIdKey u (front-bytes (pair deleteIdKey u) [] (each .1)))
 
 composite-bytes : (i : Identity) → AllBytes (compositeText i) → IdentityBytes i
 unfolding compositeText

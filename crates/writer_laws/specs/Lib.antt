@@ -5,4 +5,5 @@ pub mod Refusals
 pub mod Shortest
 pub mod ReadBack
 pub mod Added
+pub mod VersionPart
 pub mod TellsApart

@@ -1,65 +1,100 @@
 //! LTFS-VOF pack records, read and written by code that is proved to keep its contract.
 //!
-//! Every input has an answer: a result, or a [`Refusal`] whose number docs/REFUSALS.md explains. Nothing
-//! is copied but identifiers: parts of a record are handed back as parts of the pack. A refusal leaves
-//! lent memory as it was, and what lies behind a result keeps its content. A pack too long for memory is
-//! handed over in parts, to a [`Pipe`].
+//! Every input has an answer: a result, or a [`Refusal`], which says why and what to do; [`refused`] names
+//! the numbers. Nothing is copied but identifiers: parts of a record are handed back as parts of the pack.
+//! A pack too long for memory is handed over in parts, to a [`Pipe`], or read by [`stream`]. The functions of
+//! [`raw`] allocate nothing.
 //!
 //! The build links the archive that the environment variable VOF_LIBRARY names by its absolute path, else
 //! this repository's target/staticlib/libvof.a, which `bin/archive` writes. It refuses an archive that has
 //! another version than include/vof.h had when this crate was written.
 //!
 //! ```
-//! let mut buffer = [0; 256];
+//! let mut writer = vof::Writer::new();
 //! let name = b"00000000000000000000000001:herd/k";
-//! let used = vof::write_block(&mut buffer, 0, name, b"abc")?;
-//! let pack = &buffer[..used];
+//! writer.block(name, b"abc")?;
+//! let pack = writer.as_bytes();
 //!
-//! let mut entries = [vof::Entry::default(); 8];
-//! assert_eq!(vof::scan(pack, &mut entries)?, 1);
-//! assert_eq!(entries[0].tag, vof::BLOCK);
-//! assert_eq!(vof::find_hash(&entries[..1], entries[0].hash)?, Some(0));
+//! let entries = vof::scan(pack)?;
+//! assert_eq!(entries.len(), 1);
+//! assert_eq!(entries[0].tag, vof::Tag::Block);
+//! assert_eq!(vof::find_hash(&entries, entries[0].value_hash)?, Some(0));
 //!
-//! let mut identifier = [0; vof::IDENTIFIER_LIMIT];
-//! let record = vof::record(pack, entries[0].start as usize, &mut identifier)?;
-//! assert_eq!(record.identifier, name);
-//! assert_eq!(record.value.secondary.unwrap().bytes, b"abc");
+//! let record = vof::record(pack, entries[0].start)?;
+//! assert_eq!(record.identifier.object(), b"k");
+//! assert_eq!(record.secondary.unwrap().bytes, b"abc");
 //! # Ok::<(), vof::Refusal>(())
 //! ```
 
+mod pipe;
 pub mod raw;
+pub mod refused;
 
-/// The tag `bk`.
-pub const BLOCK: u64 = 0x626B;
-/// The tag `vr`.
-pub const VERSION: u64 = 0x7672;
-/// The tag `vd`.
-pub const VERSION_DELETE: u64 = 0x7664;
-/// The tag `ol`.
-pub const PACK_LIST: u64 = 0x6F6C;
-/// The longest composite text, `ULID:bucket/object`.
-pub const IDENTIFIER_LIMIT: usize = 1115;
-/// The longest pack that comes in parts.
-pub const PIPE_LIMIT: u64 = 1 << 40;
+pub use pipe::{stream, Pipe, Records, Stream};
+
 /// The bytes of a record before its value.
-pub const HEADER: usize = 32;
+pub const HEADER_LENGTH: usize = 32;
 /// The characters of a ULID.
-pub const ULID: usize = 26;
+pub const ULID_LENGTH: usize = 26;
+/// The longest bucket.
+pub const BUCKET_LIMIT: usize = 63;
+/// The longest object.
+pub const OBJECT_LIMIT: usize = 1024;
+/// The longest composite text, `ULID:bucket/object`.
+pub const COMPOSITE_LIMIT: usize = 1115;
+/// The longest primary part that [`version_part`] makes.
+pub const VERSION_PART_LIMIT: usize = 1129;
+/// The longest pack.
+pub const PACK_LIMIT: usize = 4294967295;
+/// The longest pack that comes in parts.
+pub const PIPE_LIMIT: u64 = 1099511627776;
 
 /// Why there is no result.
 #[derive(Clone, Copy, Debug, PartialEq, Eq)]
 pub struct Refusal {
-    /// The number in docs/REFUSALS.md, 1 to 22.
+    /// One of [`refused`].
     pub number: u8,
     /// The start of the record at fault, where the refusal is about a place of the pack.
     pub place: Option<u64>,
+    /// Of a record that is not written, the number that a reader would give it, or 1 where the pack is
+    /// full.
+    pub because: Option<u8>,
+}
+
+impl Refusal {
+    /// What was handed to the writer is not admitted.
+    fn not_admitted(because: u8) -> Refusal {
+        Refusal {
+            number: refused::NOT_ADMITTED,
+            place: None,
+            because: Some(because),
+        }
+    }
+
+    /// Why, in a few words.
+    pub fn reason(&self) -> &'static str {
+        text(self.number).0
+    }
+
+    /// What to do about it.
+    pub fn advice(&self) -> &'static str {
+        text(self.number).1
+    }
+}
+
+fn text(number: u8) -> (&'static str, &'static str) {
+    refused::TEXTS[usize::from(number) - 1]
 }
 
 impl std::fmt::Display for Refusal {
     fn fmt(&self, f: &mut std::fmt::Formatter) -> std::fmt::Result {
         write!(f, "refused {}", self.number)?;
-        match self.place {
-            Some(place) => write!(f, " at {place}"),
+        if let Some(place) = self.place {
+            write!(f, " at {place}")?;
+        }
+        write!(f, ": {}", self.reason())?;
+        match self.because {
+            Some(number) => write!(f, ", by {number}: {}", text(number).0),
             None => Ok(()),
         }
     }
@@ -74,40 +109,143 @@ fn word(answer: u64, placed: fn(u8) -> bool) -> Result<u64, Refusal> {
         number => Err(Refusal {
             number,
             place: placed(number).then_some(answer / 256),
+            because: None,
         }),
     }
 }
 
 /// 1 to 8, of a pack.
 fn of_pack(number: u8) -> bool {
-    number <= 8
+    number <= refused::VALUE_DAMAGED
 }
 
 /// All but what was handed in, of a lookup.
 fn of_lookup(number: u8) -> bool {
-    !matches!(number, 19 | 20)
+    !matches!(number, refused::NO_ROOM | refused::NOT_ADMITTED)
 }
 
-/// One record of a pack, as [`scan`] tells it.
-#[derive(Clone, Copy, Debug, Default, PartialEq, Eq)]
-#[repr(C)]
+/// A record's tag.
+#[derive(Clone, Copy, Debug, PartialEq, Eq, Hash)]
+pub enum Tag {
+    /// `bk`
+    Block,
+    /// `vr`
+    Version,
+    /// `vd`
+    VersionDelete,
+    /// `ol`
+    PackList,
+    /// That of a record that is listed and not read.
+    Other([u8; 2]),
+}
+
+impl From<[u8; 2]> for Tag {
+    fn from(bytes: [u8; 2]) -> Tag {
+        match &bytes {
+            b"bk" => Tag::Block,
+            b"vr" => Tag::Version,
+            b"vd" => Tag::VersionDelete,
+            b"ol" => Tag::PackList,
+            _ => Tag::Other(bytes),
+        }
+    }
+}
+
+impl Tag {
+    /// As it stands in the record.
+    pub fn bytes(self) -> [u8; 2] {
+        match self {
+            Tag::Block => *b"bk",
+            Tag::Version => *b"vr",
+            Tag::VersionDelete => *b"vd",
+            Tag::PackList => *b"ol",
+            Tag::Other(bytes) => bytes,
+        }
+    }
+
+    fn told(number: u64) -> Tag {
+        Tag::from((number as u16).to_be_bytes())
+    }
+}
+
+/// A version's identifier.
+#[derive(Clone, Debug, PartialEq, Eq, Hash)]
+pub struct Identifier {
+    composite: Vec<u8>,
+}
+
+impl Identifier {
+    /// Refused with 20 where its text would read as another identifier.
+    pub fn new(ulid: &[u8], bucket: &[u8], object: &[u8]) -> Result<Identifier, Refusal> {
+        if ulid.len() != ULID_LENGTH || bucket.contains(&b'/') {
+            return Err(Refusal::not_admitted(refused::NAME_BREAKS_RULES));
+        }
+        let composite = [ulid, b":", bucket, b"/", object].concat();
+        Ok(Identifier { composite })
+    }
+
+    /// The identifier as one text.
+    pub fn composite(&self) -> &[u8] {
+        &self.composite
+    }
+
+    pub fn ulid(&self) -> &[u8] {
+        &self.composite[..ULID_LENGTH]
+    }
+
+    pub fn bucket(&self) -> &[u8] {
+        self.names().0
+    }
+
+    pub fn object(&self) -> &[u8] {
+        self.names().1
+    }
+
+    fn names(&self) -> (&[u8], &[u8]) {
+        let names = &self.composite[ULID_LENGTH + 1..];
+        // A bucket has no slash.
+        let slash = names.iter().position(|&byte| byte == b'/').unwrap();
+        (&names[..slash], &names[slash + 1..])
+    }
+}
+
+impl AsRef<[u8]> for Identifier {
+    fn as_ref(&self) -> &[u8] {
+        &self.composite
+    }
+}
+
+/// A record as a scan lists it, and a pipe.
+#[derive(Clone, Copy, Debug, PartialEq, Eq)]
 pub struct Entry {
     /// Where the record starts in the pack.
     pub start: u64,
-    /// Its tag, two bytes as a big-endian number.
-    pub tag: u64,
-    /// The length of its value; the record is [`HEADER`] bytes longer.
-    pub length: u64,
+    pub tag: Tag,
+    /// The length of its value; the record is [`HEADER_LENGTH`] bytes longer.
+    pub value_length: u64,
     /// The XXH64 of its value.
-    pub hash: u64,
+    pub value_hash: u64,
 }
 
 impl Entry {
-    /// How many numbers it is.
-    const NUMBERS: usize = 4;
+    fn told([start, tag, value_length, value_hash]: [u64; 4]) -> Entry {
+        Entry {
+            start,
+            tag: Tag::told(tag),
+            value_length,
+            value_hash,
+        }
+    }
 }
 
-/// Part of a value.
+/// Bytes in a pack.
+#[derive(Clone, Copy, Debug, PartialEq, Eq)]
+pub struct Place {
+    pub start: u64,
+    pub length: u64,
+}
+
+/// A part of a value, and how it is encoded.
 #[derive(Clone, Copy, Debug, PartialEq, Eq)]
 pub struct Part<'a> {
     /// The part as it stands in the value, compressed and encrypted as it may be.
@@ -115,90 +253,90 @@ pub struct Part<'a> {
     /// `c`, the compression's number; 0 is none.
     pub compression: u64,
     /// Whether `z`, the encryption's parameters, is there.
-    pub encrypted: bool,
+    pub is_encrypted: bool,
 }
 
-/// The header of a value, read.
+/// A value taken apart.
 #[derive(Clone, Copy, Debug, PartialEq, Eq)]
 pub struct Value<'a> {
+    /// `v`: the version of the structure.
+    pub structure_version: u64,
     /// `e`: what the record is about.
     pub primary: Part<'a>,
     /// What follows the header: a block's data. An empty part is not an absent one.
     pub secondary: Option<Part<'a>>,
-    /// `v`: the version of the structure.
-    pub version: u64,
 }
 
-/// One record, read.
-#[derive(Clone, Copy, Debug, PartialEq, Eq)]
-pub struct Record<'a, 'b> {
-    /// [`BLOCK`], [`VERSION`], [`VERSION_DELETE`] or [`PACK_LIST`].
-    pub tag: u64,
-    /// The whole value.
-    pub bytes: &'a [u8],
-    /// The value's parts.
-    pub value: Value<'a>,
-    /// Whether a version is a delete marker; false in other records.
-    pub deleted: bool,
-    /// The identifier as composite text, in the lent bytes.
-    pub identifier: &'b [u8],
-    /// A version delete's own ULID.
+/// A block, a version, a version delete or a pack list.
+#[derive(Clone, Debug, PartialEq, Eq)]
+pub struct Record<'a> {
+    pub tag: Tag,
+    pub identifier: Identifier,
+    /// Only a version is one.
+    pub is_delete_marker: bool,
+    /// Only a version delete has one.
     pub delete_ulid: Option<&'a [u8]>,
+    /// The whole value.
+    pub value: &'a [u8],
+    /// As in [`Value`].
+    pub primary: Part<'a>,
+    /// As in [`Value`].
+    pub secondary: Option<Part<'a>>,
 }
 
-/// The current version of an object.
-#[derive(Clone, Copy, Debug, PartialEq, Eq)]
-pub struct Current<'a> {
-    /// The version's ULID.
-    pub ulid: [u8; ULID],
+/// An object's current version.
+#[derive(Clone, Debug, PartialEq, Eq)]
+pub struct Version<'a> {
+    pub identifier: Identifier,
+    pub is_delete_marker: bool,
     /// Where its record starts in the pack.
     pub start: u64,
     /// The whole value.
-    pub bytes: &'a [u8],
-    /// Whether it is a delete marker.
-    pub deleted: bool,
+    pub value: &'a [u8],
 }
 
-/// One version record of a name, as [`explain`] tells it.
-#[derive(Clone, Copy, Debug, Default, PartialEq, Eq)]
-#[repr(C)]
+/// Why a version record is current, or is not.
+#[derive(Clone, Copy, Debug, PartialEq, Eq)]
+pub enum Reason {
+    Current,
+    /// It is current, and a delete marker.
+    CurrentMarker,
+    /// Another version is current, and its ULID is greater.
+    Older,
+    /// An earlier version record has the same identifier.
+    Repeated,
+    /// A version delete names it.
+    Removed,
+}
+
+/// In the order of include/vof.h.
+const REASONS: [Reason; 5] = [
+    Reason::Current,
+    Reason::CurrentMarker,
+    Reason::Older,
+    Reason::Repeated,
+    Reason::Removed,
+];
+
+/// A version record of a name, and why it is current or is not.
+#[derive(Clone, Copy, Debug, PartialEq, Eq)]
 pub struct Line {
     /// Where the record starts in the pack.
     pub start: u64,
-    /// [`CURRENT`], [`CURRENT_MARKER`], [`OLDER`], [`REPEATED`] or [`REMOVED`].
-    pub reason: u64,
+    pub reason: Reason,
     /// Where another record starts: of an older one the current one, of a repeated one the earliest with
     /// its identifier, of a removed one the earliest deletion of it; of the current one its own start.
     pub place: u64,
 }
 
-/// The current version.
-pub const CURRENT: u64 = 0;
-/// The current version, which is a delete marker.
-pub const CURRENT_MARKER: u64 = 1;
-/// Another version is current, and its ULID is greater.
-pub const OLDER: u64 = 2;
-/// An earlier version record has the same identifier.
-pub const REPEATED: u64 = 3;
-/// A version delete names it.
-pub const REMOVED: u64 = 4;
-
-/// One entry of a pack list, as [`pack_list`] tells it: which range of the version is stored in which
-/// range of a pack.
-#[derive(Clone, Copy, Debug, Default, PartialEq, Eq)]
-#[repr(C)]
-pub struct PackEntry {
-    /// Where the pack's ULID, of [`ULID`] characters, starts in the primary part.
-    pub ulid: u64,
-    /// The range of the version's data.
-    pub source_start: u64,
-    /// Its length.
-    pub source_length: u64,
-    /// The range of the pack, in which the blocks stand end to end.
-    pub pack_start: u64,
-    /// Its length.
-    pub pack_length: u64,
-    /// How many blocks there are.
+/// An entry of a pack list: a range of the version's data, and where it is stored in which pack, in so many
+/// blocks.
+#[derive(Clone, Copy, Debug, PartialEq, Eq)]
+pub struct PackEntry<'a> {
+    /// The pack's.
+    pub ulid: &'a [u8],
+    pub source: Place,
+    pub stored: Place,
     pub blocks: u64,
 }
 
@@ -212,10 +350,13 @@ pub struct Found<'a> {
     pub block: Option<u64>,
     /// The pack's ULID.
     pub ulid: &'a [u8],
-    /// Where the block's record starts in that pack, or where the entry's range does.
-    pub start: u64,
-    /// The length of the record, or of the range.
-    pub length: u64,
+    /// Where the block's record stands in that pack, or the entry's range.
+    pub stored: Place,
+}
+
+/// The version of the library, and of include/vof.h.
+pub fn version() -> u64 {
+    raw::version()
 }
 
 /// The XXH64 of the bytes, seed 0.
@@ -223,158 +364,83 @@ pub fn xxh64(bytes: &[u8]) -> u64 {
     raw::xxh64(bytes)
 }
 
-/// How many records a pack has; `entries` gets one entry for each, in order.
+/// What a function tells, so many numbers for each of at most so many things.
+fn rows<const WIDTH: usize>(
+    most: usize,
+    placed: fn(u8) -> bool,
+    tell: impl Fn(&mut [u64]) -> u64,
+) -> Result<Vec<[u64; WIDTH]>, Refusal> {
+    let mut room = most.min(4096);
+    // How many there are is known after the check, and only to a list that is long enough.
+    loop {
+        let mut told = vec![[0; WIDTH]; room];
+        let answer = tell(told.as_flattened_mut());
+        if answer % 256 != u64::from(refused::NO_ROOM) || room == most {
+            told.truncate(word(answer, placed)? as usize);
+            return Ok(told);
+        }
+        room = most.min(16 * room);
+    }
+}
+
+/// Checks a pack, and lists its records in their order.
 ///
-/// Refused with 1 to 8 and a place, or with 19 where `entries` is too short. A pack has at most one
-/// record for each [`HEADER`] of its bytes.
-pub fn scan(pack: &[u8], entries: &mut [Entry]) -> Result<usize, Refusal> {
-    let length = Entry::NUMBERS * entries.len();
-    // SAFETY: an entry is so many numbers, laid out as in C, and any numbers are an entry.
-    let told = unsafe { std::slice::from_raw_parts_mut(entries.as_mut_ptr().cast(), length) };
-    word(raw::scan(pack, told), of_pack).map(|count| count as usize)
+/// Refused with 1 to 8 and a place.
+pub fn scan(pack: &[u8]) -> Result<Vec<Entry>, Refusal> {
+    let most = pack.len() / HEADER_LENGTH;
+    let told = rows(most, of_pack, |told| raw::scan(pack, told))?;
+    Ok(told.into_iter().map(Entry::told).collect())
 }
 
 /// The index of the first entry whose value has this hash, `None` where none has it.
 ///
 /// Refused with 20 where there are more than 2^32 entries.
 pub fn find_hash(entries: &[Entry], hash: u64) -> Result<Option<usize>, Refusal> {
-    let length = Entry::NUMBERS * entries.len();
-    // SAFETY: as in `scan`.
-    let told = unsafe { std::slice::from_raw_parts(entries.as_ptr().cast(), length) };
-    let found = word(raw::find_hash(told, hash), |_| false)?;
+    let told: Vec<_> = entries
+        .iter()
+        .map(|entry| [0, 0, 0, entry.value_hash])
+        .collect();
+    let found = word(raw::find_hash(told.as_flattened(), hash), |_| false)?;
     Ok(found.checked_sub(1).map(|place| place as usize))
 }
 
-/// A pack of at most [`PIPE_LIMIT`] bytes that comes in parts.
+/// The record at a place of a pack; the rest of the pack is not looked at.
 ///
-/// However it is cut, its records and its refusal are those that [`scan`] would tell of the whole, with this
-/// limit for its own; but each record is told as it completes, so that those before a fault are told too. A
-/// refusal takes nothing of its part, and is given again at every later call. What is kept between parts has
-/// one size. A pipe may be cloned, and gone on with twice.
-///
-/// ```
-/// let mut buffer = [0; 256];
-/// let first = vof::write_block(&mut buffer, 0, b"00000000000000000000000001:herd/k", b"abc")?;
-/// let used = vof::write_block(&mut buffer, first, b"00000000000000000000000002:herd/k", b"de")?;
-///
-/// let (mut pipe, mut starts) = (vof::Pipe::new(), Vec::new());
-/// for part in buffer[..used].chunks(50) {
-///     for record in pipe.feed(part) {
-///         starts.push(record?.start as usize);
-///     }
-/// }
-/// assert_eq!(starts, [0, first]);
-/// assert_eq!(pipe.clone().end()?, 2);
-///
-/// pipe.feed(b"more").for_each(drop);
-/// assert_eq!(pipe.end().unwrap_err().to_string(), format!("refused 2 at {used}"));
-/// # Ok::<(), vof::Refusal>(())
-/// ```
-#[derive(Clone, Debug)]
-pub struct Pipe {
-    state: [u64; raw::PIPE_STATE],
-}
-
-impl Pipe {
-    /// Before the first byte of a pack.
-    pub fn new() -> Pipe {
-        let mut state = [0; raw::PIPE_STATE];
-        // It has so many numbers, and then nothing is refused.
-        raw::pipe_start(&mut state);
-        Pipe { state }
-    }
-
-    /// Takes a part up to the byte that completes a record: how many bytes were taken, and that record. Where
-    /// there is none the whole part was taken.
-    ///
-    /// Refused with 1 where a byte past [`PIPE_LIMIT`] would be taken, with 3 to 6 once a header is whole, with
-    /// 8 once a value is, all with a place.
-    pub fn take(&mut self, part: &[u8]) -> Result<(usize, Option<Entry>), Refusal> {
-        let mut told = [0; 6];
-        word(raw::pipe_take(&mut self.state, part, &mut told), of_pack)?;
-        let [taken, event, start, tag, length, hash] = told;
-        let record = Entry {
-            start,
-            tag,
-            length,
-            hash,
-        };
-        Ok((taken as usize, (event == 1).then_some(record)))
-    }
-
-    /// The records that complete in a part, which is taken as far as they are asked for; a refusal is the last
-    /// item.
-    pub fn feed<'a>(&'a mut self, part: &'a [u8]) -> Records<'a> {
-        Records { pipe: self, part }
-    }
-
-    /// How many records the pack has, of which this is the end.
-    ///
-    /// Refused with 2 where the last header is not whole, with 7 where the last value is not, or again as
-    /// before.
-    pub fn end(mut self) -> Result<u64, Refusal> {
-        word(raw::pipe_end(&mut self.state), of_pack)
-    }
-}
-
-impl Default for Pipe {
-    fn default() -> Pipe {
-        Pipe::new()
-    }
-}
-
-/// What [`Pipe::feed`] gives.
-#[derive(Debug)]
-#[must_use = "a part is taken as far as its records are asked for"]
-pub struct Records<'a> {
-    pipe: &'a mut Pipe,
-    part: &'a [u8],
-}
-
-impl Iterator for Records<'_> {
-    type Item = Result<Entry, Refusal>;
-
-    fn next(&mut self) -> Option<Result<Entry, Refusal>> {
-        if self.part.is_empty() {
-            return None;
-        }
-        let taken = self.pipe.take(self.part);
-        let rest = taken.map_or(self.part.len(), |(count, _)| count);
-        self.part = &self.part[rest..];
-        taken.map(|(_, record)| record).transpose()
-    }
-}
-
-/// The record at a place of a pack; `identifier` gets its composite text.
-///
-/// Refused with 1 to 8 and a place, with 9 to 18, 21 or 22, with 19 where `identifier` is too short
-/// ([`IDENTIFIER_LIMIT`] always suffices), or with 20 where the place is not inside the pack.
-pub fn record<'a, 'b>(
-    pack: &'a [u8],
-    at: usize,
-    identifier: &'b mut [u8],
-) -> Result<Record<'a, 'b>, Refusal> {
-    let mut told = [0; 16];
-    word(raw::record(pack, at, &mut told, identifier), of_pack)?;
-    let [tag, value, length, parts @ .., deleted, identifier_length, by, by_length] = told;
+/// Refused with 1 to 8 and a place, with 9 to 18, 21 or 22, or with 20 where the place is not inside the
+/// pack.
+pub fn record(pack: &[u8], at: u64) -> Result<Record<'_>, Refusal> {
+    let (mut told, mut composite) = ([0; 16], [0; COMPOSITE_LIMIT]);
+    let answer = raw::record(pack, at as usize, &mut told, &mut composite);
+    word(answer, of_pack)?;
+    let [tag, value, length, parts @ .., is_delete_marker, composite_length, by, by_length] = told;
+    let (primary, secondary) = read_parts(pack, parts);
+    let tag = Tag::told(tag);
     Ok(Record {
         tag,
-        bytes: range(pack, value, length),
-        value: read_parts(pack, parts, 0),
-        deleted: deleted == 1,
-        identifier: &identifier[..identifier_length as usize],
-        delete_ulid: (tag == VERSION_DELETE).then(|| range(pack, by, by_length)),
+        identifier: Identifier {
+            composite: composite[..composite_length as usize].into(),
+        },
+        is_delete_marker: is_delete_marker == 1,
+        delete_ulid: (tag == Tag::VersionDelete).then(|| range(pack, by, by_length)),
+        value: range(pack, value, length),
+        primary,
+        secondary,
     })
 }
 
-/// The parts of a value, whatever its record's tag, for whoever opens compressed or encrypted parts.
+/// A value taken apart, whatever its record's tag, for whoever opens compressed or encrypted parts.
 ///
 /// Refused with 9 to 12 or 22.
 pub fn value(value: &[u8]) -> Result<Value<'_>, Refusal> {
     let mut told = [0; 10];
     word(raw::value(value, &mut told), |_| false)?;
-    let [parts @ .., version] = told;
-    Ok(read_parts(value, parts, version))
+    let [parts @ .., structure_version] = told;
+    let (primary, secondary) = read_parts(value, parts);
+    Ok(Value {
+        structure_version,
+        primary,
+        secondary,
+    })
 }
 
 /// The current version of an object, `None` where the pack has none.
@@ -385,47 +451,55 @@ pub fn current<'a>(
     pack: &'a [u8],
     bucket: &[u8],
     object: &[u8],
-) -> Result<Option<Current<'a>>, Refusal> {
-    let (mut told, mut ulid) = ([0; 4], [0; ULID]);
-    word(
-        raw::current(pack, bucket, object, &mut told, &mut ulid),
-        of_lookup,
-    )?;
-    let [found, start, length, deleted] = told;
-    Ok((found == 1).then(|| Current {
-        ulid,
+) -> Result<Option<Version<'a>>, Refusal> {
+    let (mut told, mut ulid) = ([0; 4], [0; ULID_LENGTH]);
+    let answer = raw::current(pack, bucket, object, &mut told, &mut ulid);
+    word(answer, of_lookup)?;
+    let [found, start, value_length, is_delete_marker] = told;
+    if found == 0 {
+        return Ok(None);
+    }
+    Ok(Some(Version {
+        identifier: Identifier::new(&ulid, bucket, object)?,
+        is_delete_marker: is_delete_marker == 1,
         start,
-        bytes: range(pack, start + HEADER as u64, length),
-        deleted: deleted == 1,
+        value: range(pack, start + HEADER_LENGTH as u64, value_length),
     }))
 }
 
-/// How many version records an object has; `lines` gets one line for each, in order, which says why it is
-/// current or is not.
+/// A line for each version record of an object, in their order.
 ///
-/// Refused as [`current`] is, or with 19 where `lines` is too short. A pack has at most one record for
-/// each [`HEADER`] of its bytes.
-pub fn explain(
-    pack: &[u8],
-    bucket: &[u8],
-    object: &[u8],
-    lines: &mut [Line],
-) -> Result<usize, Refusal> {
-    // SAFETY: a line is three numbers, laid out as in C, and any numbers are a line.
-    let told =
-        unsafe { std::slice::from_raw_parts_mut(lines.as_mut_ptr().cast(), 3 * lines.len()) };
-    word(raw::explain(pack, bucket, object, told), of_lookup).map(|count| count as usize)
+/// Refused as [`current`] is.
+pub fn explain(pack: &[u8], bucket: &[u8], object: &[u8]) -> Result<Vec<Line>, Refusal> {
+    let most = pack.len() / HEADER_LENGTH;
+    let told = rows(most, of_lookup, |told| {
+        raw::explain(pack, bucket, object, told)
+    })?;
+    let line = |[start, reason, place]: [u64; 3]| Line {
+        start,
+        reason: REASONS[reason as usize],
+        place,
+    };
+    Ok(told.into_iter().map(line).collect())
 }
 
-/// How many entries a pack list has, by its primary part; `entries` gets them, in order.
+/// The entries of a pack list, by its primary part.
 ///
-/// Refused with 16 to 18, 21 or 22, or with 19 where `entries` is too short. A list has at most one entry
-/// for each 36 bytes of its primary part.
-pub fn pack_list(primary: &[u8], entries: &mut [PackEntry]) -> Result<usize, Refusal> {
-    // SAFETY: an entry is six numbers, laid out as in C, and any numbers are an entry.
-    let told =
-        unsafe { std::slice::from_raw_parts_mut(entries.as_mut_ptr().cast(), 6 * entries.len()) };
-    word(raw::pack_list(primary, told), |_| false).map(|count| count as usize)
+/// Refused with 16 to 18, 21 or 22.
+pub fn pack_list(primary: &[u8]) -> Result<Vec<PackEntry<'_>>, Refusal> {
+    // No entry is shorter than 36 bytes.
+    let most = primary.len() / 36;
+    let told = rows(most, |_| false, |told| raw::pack_list(primary, told))?;
+    let entry = |[ulid, start, length, stored, stored_length, blocks]: [u64; 6]| PackEntry {
+        ulid: range(primary, ulid, ULID_LENGTH as u64),
+        source: Place { start, length },
+        stored: Place {
+            start: stored,
+            length: stored_length,
+        },
+        blocks,
+    };
+    Ok(told.into_iter().map(entry).collect())
 }
 
 /// The block that holds a byte of the version, by a pack list's primary part; `None` where no entry has
@@ -442,13 +516,12 @@ pub fn pack_list(primary: &[u8], entries: &mut [PackEntry]) -> Result<usize, Ref
 /// let primary = b"\x82\xa1I\xd9\x2100000000000000000000000001:herd/k\xa1P\x91\
 ///     \x84\xa1p\xba00000000000000000000000002\xa1o\x81\xa1l\x24\xa1t\x81\xa1l\xcd\x01\x2f\
 ///     \xa1E\x92\x65\x65";
-/// let mut entries = [vof::PackEntry::default(); 4];
-/// assert_eq!(vof::pack_list(primary, &mut entries)?, 1);
-/// assert_eq!(entries[0].blocks, 3);
+/// let entries = vof::pack_list(primary)?;
+/// assert_eq!((entries.len(), entries[0].blocks), (1, 3));
 ///
 /// let found = vof::find_block(primary, 12)?.unwrap();
 /// assert_eq!((found.entry, found.block), (0, Some(1)));
-/// assert_eq!((found.start, found.length), (101, 101));
+/// assert_eq!((found.stored.start, found.stored.length), (101, 101));
 /// assert_eq!(found.ulid, b"00000000000000000000000002");
 /// assert_eq!(vof::find_block(primary, 36)?, None);
 /// # Ok::<(), vof::Refusal>(())
@@ -460,73 +533,244 @@ pub fn find_block(primary: &[u8], byte: u64) -> Result<Option<Found<'_>>, Refusa
     Ok((kind > 0).then(|| Found {
         entry,
         block: (kind == 2).then_some(block),
-        ulid: range(primary, ulid, ULID as u64),
-        start,
-        length,
+        ulid: range(primary, ulid, ULID_LENGTH as u64),
+        stored: Place { start, length },
     }))
 }
 
 /// Writes a block after the first `used` bytes of the buffer, and gives the new count of bytes.
 ///
-/// The identifier is composite text. Refused with 20 where it breaks the rules or the pack would be
-/// too long, with 19 where the buffer is too short.
+/// The identifier is an [`Identifier`] or its composite text. Refused with 20 where it breaks the rules or
+/// the pack would be too long, with 19 where the buffer is too short.
 pub fn write_block(
     buffer: &mut [u8],
     used: usize,
-    identifier: &[u8],
+    identifier: impl AsRef<[u8]>,
     data: &[u8],
 ) -> Result<usize, Refusal> {
-    written(raw::write_block(buffer, used, identifier, data))
+    let name = identifier.as_ref();
+    written(raw::write_block(buffer, used, name, data), || {
+        of_names(raw::write_block(&mut [], 0, name, &[]))
+    })
+}
+
+/// The primary part of a version with this identifier, or of a delete marker.
+///
+/// The identifier is an [`Identifier`] or its composite text. Refused with 20 where it breaks the rules.
+pub fn version_part(
+    identifier: impl AsRef<[u8]>,
+    is_delete_marker: bool,
+) -> Result<Vec<u8>, Refusal> {
+    let mut part = vec![0; VERSION_PART_LIMIT];
+    let answer = raw::version_part(&mut part, identifier.as_ref(), is_delete_marker.into());
+    part.truncate(written(answer, || refused::NAME_BREAKS_RULES)?);
+    Ok(part)
 }
 
 /// Writes a version with this primary part, as [`write_block`] does.
 ///
 /// Refused with 20 where the primary part does not read (16 to 18, 22), too.
+///
+/// ```
+/// let refusal = vof::write_version(&mut [0; 99], 0, b"\x80").unwrap_err();
+/// assert_eq!(refusal.number, vof::refused::NOT_ADMITTED);
+/// assert_eq!(refusal.because, Some(vof::refused::PRIMARY_NOT_DESCRIBED));
+/// ```
 pub fn write_version(buffer: &mut [u8], used: usize, primary: &[u8]) -> Result<usize, Refusal> {
-    written(raw::write_version(buffer, used, primary))
+    let answer = raw::write_version(buffer, used, primary);
+    written(answer, || of_part(Tag::Version, primary))
+}
+
+/// Writes a version, or a delete marker, with the primary part that [`version_part`] makes, as
+/// [`write_block`] does.
+///
+/// ```
+/// let (name, mut writer) = (b"00000000000000000000000001:herd/k", vof::Writer::new());
+/// writer.version_of(name, true)?;
+/// let version = vof::current(writer.as_bytes(), b"herd", b"k")?.unwrap();
+/// assert_eq!(version.identifier.composite(), name);
+/// assert!(version.is_delete_marker);
+/// # Ok::<(), vof::Refusal>(())
+/// ```
+pub fn write_version_of(
+    buffer: &mut [u8],
+    used: usize,
+    identifier: impl AsRef<[u8]>,
+    is_delete_marker: bool,
+) -> Result<usize, Refusal> {
+    write_version(buffer, used, &version_part(identifier, is_delete_marker)?)
 }
 
 /// Writes a version delete with this primary part, as [`write_version`] does.
 pub fn write_delete(buffer: &mut [u8], used: usize, primary: &[u8]) -> Result<usize, Refusal> {
-    written(raw::write_delete(buffer, used, primary))
+    let answer = raw::write_delete(buffer, used, primary);
+    written(answer, || of_part(Tag::VersionDelete, primary))
 }
 
 /// Writes a pack list with this primary part, as [`write_version`] does.
 ///
 /// Refused with 20 where the primary part has a range or lengths that cannot be (21), too.
 pub fn write_pack_list(buffer: &mut [u8], used: usize, primary: &[u8]) -> Result<usize, Refusal> {
-    written(raw::write_pack_list(buffer, used, primary))
+    let answer = raw::write_pack_list(buffer, used, primary);
+    written(answer, || of_part(Tag::PackList, primary))
 }
 
 /// Writes a version delete that names the version `identifier`, as [`write_block`] does.
 pub fn write_delete_of(
     buffer: &mut [u8],
     used: usize,
-    identifier: &[u8],
+    identifier: impl AsRef<[u8]>,
     delete_ulid: &[u8],
 ) -> Result<usize, Refusal> {
-    written(raw::write_delete_of(buffer, used, identifier, delete_ulid))
+    let name = identifier.as_ref();
+    written(
+        raw::write_delete_of(buffer, used, name, delete_ulid),
+        || of_names(raw::write_delete_of(&mut [], 0, name, delete_ulid)),
+    )
 }
 
-fn written(answer: u64) -> Result<usize, Refusal> {
-    word(answer, |_| false).map(|count| count as usize)
+/// The new count; of what is not admitted, why is asked.
+fn written(answer: u64, because: impl Fn() -> u8) -> Result<usize, Refusal> {
+    match word(answer, |_| false) {
+        Err(refusal) if refusal.number == refused::NOT_ADMITTED => {
+            Err(Refusal::not_admitted(because()))
+        }
+        count => count.map(|count| count as usize),
+    }
+}
+
+/// Good names lack nothing but room, in a buffer that has none; else the pack is full.
+fn of_names(alone: u64) -> u8 {
+    match alone % 256 == u64::from(refused::NO_ROOM) {
+        true => refused::PACK_TOO_LONG,
+        false => refused::NAME_BREAKS_RULES,
+    }
+}
+
+/// What a reader says of the record; where it says nothing, the pack is full.
+fn of_part(tag: Tag, primary: &[u8]) -> u8 {
+    let read = match primary.len() <= PACK_LIMIT {
+        true => record(&around(tag, primary), 0).map(drop),
+        false => Ok(()),
+    };
+    read.err()
+        .map_or(refused::PACK_TOO_LONG, |refusal| refusal.number)
+}
+
+/// A record around a primary part, whatever that is.
+fn around(tag: Tag, primary: &[u8]) -> Vec<u8> {
+    let length = (primary.len() as u32).to_be_bytes();
+    let value = [b"\x81\xa1e\xc6", &length[..], primary].concat();
+    let mut record = [
+        b"\x89TLV\r\n\x1a\n",
+        &(value.len() as u64).to_be_bytes()[..],
+        &xxh64(&value).to_be_bytes(),
+        &[0],
+        &tag.bytes(),
+        &[8, 0, 0],
+    ]
+    .concat();
+    record.extend((xxh64(&record) as u16).to_be_bytes());
+    record.extend(value);
+    record
+}
+
+/// A pack, empty or as it is handed in, to which each method adds a record and tells where it starts: as the
+/// write function of that name does, but for 19.
+#[derive(Clone, Debug, Default)]
+pub struct Writer {
+    buffer: Vec<u8>,
+    used: usize,
+}
+
+impl From<Vec<u8>> for Writer {
+    fn from(pack: Vec<u8>) -> Writer {
+        let used = pack.len();
+        Writer { buffer: pack, used }
+    }
+}
+
+impl Writer {
+    pub fn new() -> Writer {
+        Writer::default()
+    }
+
+    /// The pack so far.
+    pub fn as_bytes(&self) -> &[u8] {
+        &self.buffer[..self.used]
+    }
+
+    /// The pack.
+    pub fn into_bytes(mut self) -> Vec<u8> {
+        self.buffer.truncate(self.used);
+        self.buffer
+    }
+
+    /// The buffer grows until the record fits.
+    fn add(
+        &mut self,
+        write: impl Fn(&mut [u8], usize) -> Result<usize, Refusal>,
+    ) -> Result<u64, Refusal> {
+        let start = self.used;
+        loop {
+            match write(&mut self.buffer, start) {
+                Err(refusal) if refusal.number == refused::NO_ROOM => {
+                    let room = self.buffer.len().max(2048);
+                    self.buffer.resize(2 * room, 0);
+                }
+                count => {
+                    self.used = count?;
+                    return Ok(start as u64);
+                }
+            }
+        }
+    }
+
+    pub fn block(&mut self, identifier: impl AsRef<[u8]>, data: &[u8]) -> Result<u64, Refusal> {
+        self.add(|buffer, used| write_block(buffer, used, &identifier, data))
+    }
+
+    pub fn version(&mut self, primary: &[u8]) -> Result<u64, Refusal> {
+        self.add(|buffer, used| write_version(buffer, used, primary))
+    }
+
+    pub fn version_of(
+        &mut self,
+        identifier: impl AsRef<[u8]>,
+        is_delete_marker: bool,
+    ) -> Result<u64, Refusal> {
+        self.add(|buffer, used| write_version_of(buffer, used, &identifier, is_delete_marker))
+    }
+
+    pub fn delete(&mut self, primary: &[u8]) -> Result<u64, Refusal> {
+        self.add(|buffer, used| write_delete(buffer, used, primary))
+    }
+
+    pub fn pack_list(&mut self, primary: &[u8]) -> Result<u64, Refusal> {
+        self.add(|buffer, used| write_pack_list(buffer, used, primary))
+    }
+
+    pub fn delete_of(
+        &mut self,
+        identifier: impl AsRef<[u8]>,
+        delete_ulid: &[u8],
+    ) -> Result<u64, Refusal> {
+        self.add(|buffer, used| write_delete_of(buffer, used, &identifier, delete_ulid))
+    }
 }
 
 fn range(bytes: &[u8], start: u64, length: u64) -> &[u8] {
     &bytes[start as usize..][..length as usize]
 }
 
-/// The nine numbers that the functions tell of a value's parts.
-fn read_parts(bytes: &[u8], told: [u64; 9], version: u64) -> Value<'_> {
+/// The primary and the secondary part, by the nine numbers that the functions tell of them.
+fn read_parts(bytes: &[u8], told: [u64; 9]) -> (Part<'_>, Option<Part<'_>>) {
     let [start, length, there, second_start, second_length, c, z, second_c, second_z] = told;
     let part = |start, length, compression, z| Part {
         bytes: range(bytes, start, length),
         compression,
-        encrypted: z == 1,
+        is_encrypted: z == 1,
     };
-    Value {
-        primary: part(start, length, c, z),
-        secondary: (there == 1).then(|| part(second_start, second_length, second_c, second_z)),
-        version,
-    }
+    let secondary = (there == 1).then(|| part(second_start, second_length, second_c, second_z));
+    (part(start, length, c, z), secondary)
 }

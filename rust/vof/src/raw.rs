@@ -69,6 +69,13 @@ extern "C" {
         data: *const u8,
         data_length: usize,
     ) -> u64;
+    fn vof_version_part(
+        part: *mut u8,
+        part_length: usize,
+        id: *const u8,
+        id_length: usize,
+        is_delete_marker: u64,
+    ) -> u64;
     fn vof_write_version(
         buffer: *mut u8,
         length: usize,
@@ -261,6 +268,19 @@ pub fn write_block(buffer: &mut [u8], used: usize, identifier: &[u8], data: &[u8
             identifier.len(),
             data.as_ptr(),
             data.len(),
+        )
+    }
+}
+
+/// Word: the length of the part, at whose front it is put; of a delete marker where the number is not 0.
+pub fn version_part(part: &mut [u8], identifier: &[u8], is_delete_marker: u64) -> u64 {
+    unsafe {
+        vof_version_part(
+            part.as_mut_ptr(),
+            part.len(),
+            identifier.as_ptr(),
+            identifier.len(),
+            is_delete_marker,
         )
     }
 }

@@ -1,6 +1,6 @@
 //! Calls on the state of a pipe, and packs in parts.
 
-use super::{alone, entry_words, pattern_words, Compare, Function, Wanted};
+use super::{alone, entry_words, pattern_words, safe_entry_words, Compare, Function, Wanted};
 use crate::plain::pack::walk;
 use crate::plain::pipe::{Event, State, LIMIT};
 use vof::raw::{self, PIPE_STATE};
@@ -154,16 +154,16 @@ impl Compare {
         let (entries, ending) = walk(pack, LIMIT);
         let verdict = ending.map(|()| entries.len() as u64);
         let wanted: Vec<[u64; 4]> = entries.iter().map(entry_words).collect();
-        let words = |entry: &Entry| [entry.start, entry.tag, entry.length, entry.hash];
         let fresh = self.pipe_start();
         let (records, told) = self.session(fresh, pack, ends);
-        let same = records.iter().map(words).eq(wanted.iter().copied()) && told == verdict;
+        let words = records.iter().map(safe_entry_words);
+        let same = words.eq(wanted.iter().copied()) && told == verdict;
         self.hold("a pack in parts is the whole", &[pack], same);
         let (mut pipe, mut records, mut refusal, mut at) = (Pipe::new(), Vec::new(), None, 0);
         for &end in ends.iter().chain([&pack.len()]) {
             for record in pipe.feed(&pack[at..end]) {
                 match record {
-                    Ok(record) => records.push(words(&record)),
+                    Ok(record) => records.push(safe_entry_words(&record)),
                     Err(told) => refusal = Some(told),
                 }
             }
@@ -172,21 +172,24 @@ impl Compare {
         let met = refusal.is_none_or(|refusal| verdict == Err(refusal));
         let same = records == wanted && met && pipe.end() == verdict;
         self.hold("the safe pipe", &[pack], same);
+        let (mut records, mut streamed) = (Vec::new(), None);
+        for told in vof::stream(pack) {
+            match told {
+                Ok(record) => records.push(safe_entry_words(&record)),
+                Err(error) => streamed = error.get_ref().and_then(|it| it.downcast_ref().copied()),
+            }
+        }
+        let same = records == wanted && streamed == verdict.err();
+        self.hold("the safe stream", &[pack], same);
     }
 }
 
 /// What a pipe tells.
 fn event_words(&(taken, event): &(usize, Event)) -> Vec<u64> {
     let (number, record) = match event {
-        Event::Wanted => (0, Entry::default()),
-        Event::Complete(record) => (1, record),
-        Event::Ended => (2, Entry::default()),
+        Event::Wanted => (0, [0; 4]),
+        Event::Complete(record) => (1, safe_entry_words(&record)),
+        Event::Ended => (2, [0; 4]),
     };
-    let Entry {
-        start,
-        tag,
-        length,
-        hash,
-    } = record;
-    vec![taken as u64, number, start, tag, length, hash]
+    [&[taken as u64, number][..], &record].concat()
 }

@@ -23,6 +23,7 @@ pub fn current<'a>(
         return Err(Refusal {
             number: 20,
             place: None,
+            because: None,
         });
     }
     let (versions, gone) = versions(pack)?;

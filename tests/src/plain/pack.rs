@@ -13,6 +13,7 @@ pub fn refusal(number: Number, place: usize) -> Refusal {
     Refusal {
         number,
         place: Some(place as u64),
+        because: None,
     }
 }
 

@@ -1,9 +1,9 @@
 //! A pack that comes in parts: request 6 of document 02, one byte after the other, and XXH64 of bytes that
 //! come so. The numbers of a state are those of include/vof.h.
 
-use super::pack::{number, read_header};
+use super::pack::{number, read_header, refusal};
 use super::Number;
-use vof::{Entry, Refusal};
+use vof::{Entry, Refusal, Tag};
 
 /// The longest pack.
 pub const LIMIT: u64 = 1_099_511_627_776;
@@ -163,10 +163,7 @@ impl State {
 
     fn refusal(&self) -> Option<Refusal> {
         match *self {
-            State::Refused(number, place) => Some(Refusal {
-                number,
-                place: Some(place),
-            }),
+            State::Refused(number, place) => Some(refusal(number, place as usize)),
             _ => None,
         }
     }
@@ -209,9 +206,9 @@ impl State {
         }
         let record = Entry {
             start: *start,
-            tag: number(&header[25..27]),
-            length,
-            hash: wanted,
+            tag: Tag::from([header[25], header[26]]),
+            value_length: length,
+            value_hash: wanted,
         };
         let next = State::Header(start + 32 + length, records + 1, Vec::new());
         (next, Some(record))

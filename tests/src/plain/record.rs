@@ -163,6 +163,7 @@ pub fn record_at(pack: &[u8], at: usize) -> Result<Record<'_>, Refusal> {
     let alone = |number| Refusal {
         number,
         place: None,
+        because: None,
     };
     if at >= pack.len() {
         return Err(alone(20));

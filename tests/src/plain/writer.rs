@@ -1,4 +1,4 @@
-//! Writing: the record, or 20 where what is handed in is not admitted.
+//! Writing: the record, or where what is handed in is not admitted the number that a reader would give it.
 
 use super::identifier::{is_ulid, Identifier};
 use super::pack::record;
@@ -45,7 +45,7 @@ pub fn with_primary(tag: &[u8; 2], primary: &[u8]) -> Vec<u8> {
 
 /// The data is shorter than the pack limit.
 pub fn block(identifier: &[u8], data: &[u8]) -> Result<Vec<u8>, Number> {
-    Identifier::from_text(identifier).ok_or(20)?;
+    Identifier::from_text(identifier).ok_or(18)?;
     let primary = [&b"\x81\xa1I"[..], &text(identifier)].concat();
     let header = [
         b"\x82\xa1s\x91\x81\xa1l",
@@ -57,35 +57,47 @@ pub fn block(identifier: &[u8], data: &[u8]) -> Result<Vec<u8>, Number> {
 }
 
 pub fn version(primary: &[u8]) -> Result<Vec<u8>, Number> {
-    read_version(primary).map_err(|_| 20)?;
+    read_version(primary)?;
     Ok(with_primary(b"vr", primary))
 }
 
+/// A map with so many pairs more, the first of which are the identifier's.
+fn named(identifier: &Identifier, more: u8) -> Vec<u8> {
+    let pairs = [
+        (&b"b"[..], &identifier.bucket),
+        (b"o", &identifier.object),
+        (b"v", &identifier.ulid),
+    ];
+    let mut map = vec![0x83 + more];
+    for (key, value) in pairs {
+        map.extend([text(key), text(value)].concat());
+    }
+    map
+}
+
+pub fn version_part(identifier: &[u8], is_delete_marker: bool) -> Result<Vec<u8>, Number> {
+    let identifier = Identifier::from_text(identifier).ok_or(18)?;
+    let flag: &[u8] = if is_delete_marker { b"\xa1d\xc3" } else { b"" };
+    Ok([&named(&identifier, is_delete_marker.into()), flag].concat())
+}
+
 pub fn delete(primary: &[u8]) -> Result<Vec<u8>, Number> {
-    read_delete(primary).map_err(|_| 20)?;
+    read_delete(primary)?;
     Ok(with_primary(b"vd", primary))
 }
 
 pub fn pack_list(primary: &[u8]) -> Result<Vec<u8>, Number> {
-    read_pack_list(primary).map_err(|_| 20)?;
+    read_pack_list(primary)?;
     Ok(with_primary(b"ol", primary))
 }
 
 pub fn delete_of(identifier: &[u8], delete_ulid: &[u8]) -> Result<Vec<u8>, Number> {
-    let identifier = Identifier::from_text(identifier).ok_or(20)?;
+    let identifier = Identifier::from_text(identifier).ok_or(18)?;
     if !is_ulid(delete_ulid) {
-        return Err(20);
+        return Err(18);
     }
-    let pairs = [
-        (&b"b"[..], &identifier.bucket[..]),
-        (b"o", &identifier.object),
-        (b"v", &identifier.ulid),
-        (b"???", delete_ulid),
-    ];
-    let mut primary = vec![0x84];
-    for (key, value) in pairs {
-        primary.extend([text(key), text(value)].concat());
-    }
+    let by = [text(b"???"), text(delete_ulid)].concat();
+    let primary = [named(&identifier, 1), by].concat();
     Ok(with_primary(b"vd", &primary))
 }
 

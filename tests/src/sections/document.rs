@@ -29,6 +29,7 @@ fn pack(compare: &mut Compare, name: &str, pack: &[u8], wanted: Result<usize, (u
     let wanted = wanted.map_err(|(number, place)| Refusal {
         number,
         place: Some(place),
+        because: None,
     });
     compare.hold(name, &[pack], found == wanted);
 }
@@ -131,7 +132,8 @@ fn number(bytes: &mut &[u8]) -> usize {
 fn told(title: &[u8], pack: &[u8], bucket: &[u8], object: &[u8]) -> Vec<u8> {
     let name = [bucket, b"/", object].concat();
     let answer = match current(pack, bucket, object) {
-        Err(refusal) => refusal.to_string().into_bytes(),
+        // Number and place; the reason comes after a colon.
+        Err(refusal) => refusal.to_string().split(':').next().unwrap().into(),
         Ok(None) => b"nothing".to_vec(),
         Ok(Some(found)) => {
             let kind = if found.deleted {

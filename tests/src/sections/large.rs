@@ -200,8 +200,8 @@ fn longest_pack(compare: &mut Compare, pack: &mut [u8]) {
     pack[..32].copy_from_slice(&front);
     // Once each: this is a long way to hash.
     compare.inputs += 2;
-    let mut entries = [vof::Entry::default(); 1];
-    let told = vof::scan(pack, &mut entries) == Ok(1) && entries[0].length == length;
+    let entries = vof::scan(pack).unwrap_or_default();
+    let told = entries.len() == 1 && entries[0].value_length == length;
     compare.hold("the longest pack is accepted", &[&front], told);
     let found = vof::current(pack, b"herd", b"k");
     compare.hold("and has no versions", &[&front], found == Ok(None));

@@ -15,7 +15,7 @@ use crate::random::Random;
 
 type Section = (&'static str, fn(&mut Compare, &mut Random));
 
-pub const ALL: [Section; 32] = [
+pub const ALL: [Section; 33] = [
     ("the documents' own cases", document::cases),
     ("the stored lookups", document::lookups),
     ("hashes", document::hashes),
@@ -53,6 +53,7 @@ pub const ALL: [Section; 32] = [
     ("names", names::names),
     ("ULIDs", names::ulids),
     ("writing", writing::calls),
+    ("primary parts of versions", writing::version_parts),
     ("write then read", properties::read_back),
     ("deletions and orders", properties::deletions_and_orders),
     ("longer than the limit", large::longer_than_the_limit),

@@ -43,6 +43,8 @@ fn name(compare: &mut Compare, ulid: &[u8], bucket: &[u8], object: &[u8]) {
 /// A composite text, handed to the writer, in a block and in a pack list.
 fn handed_in(compare: &mut Compare, composite: &[u8]) {
     compare.write_block(0, composite, b"data");
+    compare.version_of(0, composite, 0);
+    compare.version_of(0, composite, 1);
     compare.write_delete_of(0, composite, ULIDS[4].as_bytes());
     let part = map([("I", Tree::Text(composite.to_vec()))]).shortest();
     compare.record(&with_primary(b"bk", &part), 0);

@@ -3,7 +3,7 @@
 
 use crate::compare::Compare;
 use crate::generate::{edge, records, with_header_hash, with_length};
-use crate::plain::pack::{header, record, walk, Entry};
+use crate::plain::pack::{header, record, refusal, walk, Entry};
 use crate::plain::pipe::{State, LIMIT};
 use crate::random::Random;
 use vof::raw::PIPE_STATE;
@@ -276,22 +276,15 @@ fn with_room(compare: &mut Compare, random: &mut Random, pack: &[u8], room: u64)
     let starts = starts.map(|entry| bytes + entry.0 as u64);
     let shown = told.iter().map(|record| record.start).eq(starts);
     compare.hold("the records up to the limit", &[pack], shown);
-    let moved = |refusal: Refusal| at(refusal.number, bytes + refusal.place.unwrap());
+    let moved = |own: Refusal| refusal(own.number, (bytes + own.place.unwrap()) as usize);
     let own = ending.map(|()| before + told.len() as u64).map_err(moved);
     // A fault that is met earlier comes first.
     let met = told.len() == entries.len() && ending.is_err();
     let right = match pack.len() as u64 > room {
-        true => verdict == Err(at(1, 0)) || met && verdict == own,
+        true => verdict == Err(refusal(1, 0)) || met && verdict == own,
         false => verdict == own,
     };
     compare.hold("the verdict near the limit", &[pack], right);
-}
-
-fn at(number: u8, place: u64) -> Refusal {
-    Refusal {
-        number,
-        place: Some(place),
-    }
 }
 
 /// The last bytes of values that are longer than any buffer, up to the limit and past it.
@@ -319,7 +312,9 @@ fn in_long_values(compare: &mut Compare, random: &mut Random) {
         }
         let part = [&rest[..], &record(*b"yy", b"abc")].concat();
         let (told, _) = compare.session(state.clone(), &part, &cuts(random, part.len(), 3));
-        let complete = told.first().is_some_and(|record| record.length == length);
+        let complete = told
+            .first()
+            .is_some_and(|record| record.value_length == length);
         let fits = start + 32 + length <= LIMIT;
         compare.hold("the end of a long value", &[&part], complete == fits);
         any_call(compare, random, &state);

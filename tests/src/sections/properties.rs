@@ -6,10 +6,10 @@ use crate::generate::{any_identifier, few_identifiers, identifier, primary, reco
 use crate::generate::{value, NAMES, ULIDS};
 use crate::plain::identifier::Identifier;
 use crate::plain::lookup::{current, versions, Version};
-use crate::plain::pack::{read_pack, record};
+use crate::plain::pack::{read_pack, record, refusal};
 use crate::plain::record::{read_delete, read_version};
 use crate::random::Random;
-use vof::{Entry, Refusal, HEADER, IDENTIFIER_LIMIT};
+use vof::{Entry, Tag, HEADER_LENGTH};
 
 /// What was handed to the writer.
 enum Written {
@@ -64,14 +64,13 @@ pub fn read_back(compare: &mut Compare, random: &mut Random) {
         }
         let pack = &buffer[..starts[list.len()]];
         compare.inputs += 1;
-        let mut entries = vec![Entry::default(); list.len()];
-        let count = vof::scan(pack, &mut entries);
-        compare.hold("the scan counts", &[pack], count == Ok(list.len()));
+        let entries = vof::scan(pack).unwrap();
+        compare.hold("the scan counts", &[pack], entries.len() == list.len());
         for (index, (identifier, written)) in list.iter().enumerate() {
             let record = &pack[starts[index]..starts[index + 1]];
             let entry = entries[index];
-            let placed =
-                entry.start as usize == starts[index] && entry.length as usize == record.len() - 32;
+            let placed = entry.start as usize == starts[index]
+                && entry.value_length as usize == record.len() - 32;
             compare.hold("the entry", &[pack], placed);
             let same = reads_as(pack, entry, identifier, written);
             compare.hold("the record reads back", &[record], same);
@@ -80,40 +79,43 @@ pub fn read_back(compare: &mut Compare, random: &mut Random) {
 }
 
 fn reads_as(pack: &[u8], entry: Entry, identifier: &Identifier, written: &Written) -> bool {
-    let mut lent = [0; IDENTIFIER_LIMIT];
-    let record = vof::record(pack, entry.start as usize, &mut lent).unwrap();
-    let part = record.value.primary;
-    let parts = vof::value(record.bytes) == Ok(record.value) && record.tag == entry.tag;
-    let plain = part.compression == 0 && !part.encrypted && record.value.version == 0;
-    let named = record.identifier == identifier.to_text();
-    let secondary = record.value.secondary;
+    let record = vof::record(pack, entry.start).unwrap();
+    let (part, secondary) = (record.primary, record.secondary);
+    let value = vof::Value {
+        structure_version: 0,
+        primary: part,
+        secondary,
+    };
+    let parts = vof::value(record.value) == Ok(value) && record.tag == entry.tag;
+    let plain = part.compression == 0 && !part.is_encrypted;
+    let named = record.identifier.composite() == identifier.to_text();
     let content = match written {
         Written::Block(data) => {
-            record.tag == vof::BLOCK
+            record.tag == Tag::Block
                 && secondary.is_some_and(|part| part.bytes == data)
                 && record.delete_ulid.is_none()
         }
         Written::Version(given) => {
-            record.tag == vof::VERSION
+            record.tag == Tag::Version
                 && part.bytes == given
                 && secondary.is_none()
-                && record.deleted == read_version(given).unwrap().deleted
+                && record.is_delete_marker == read_version(given).unwrap().deleted
         }
         Written::Delete(given) => {
             let by = read_delete(given).unwrap().delete_ulid.unwrap();
-            record.tag == vof::VERSION_DELETE
+            record.tag == Tag::VersionDelete
                 && part.bytes == given
                 && secondary.is_none()
                 && record.delete_ulid == Some(by.bytes)
         }
         Written::PackList(given) => {
-            record.tag == vof::PACK_LIST
+            record.tag == Tag::PackList
                 && part.bytes == given
                 && secondary.is_none()
                 && record.delete_ulid.is_none()
         }
         Written::DeleteOf(by) => {
-            record.tag == vof::VERSION_DELETE
+            record.tag == Tag::VersionDelete
                 && secondary.is_none()
                 && record.delete_ulid == Some(by)
         }
@@ -127,9 +129,8 @@ pub fn fronts(compare: &mut Compare, random: &mut Random) {
     for _ in 0..40 {
         let list = records(random, 4);
         let pack = list.concat();
-        let mut all = vec![Entry::default(); list.len()];
-        let count = vof::scan(&pack, &mut all);
-        compare.hold("the pack is accepted", &[&pack], count == Ok(list.len()));
+        let all = vof::scan(&pack).unwrap();
+        compare.hold("the pack is accepted", &[&pack], all.len() == list.len());
         for end in 0..=pack.len() {
             compare.inputs += 1;
             front(compare, &pack[..end], &all);
@@ -141,24 +142,15 @@ pub fn fronts(compare: &mut Compare, random: &mut Random) {
 /// start of the broken record.
 fn front(compare: &mut Compare, front: &[u8], all: &[Entry]) {
     let end = front.len();
-    let ends = |entry: &&Entry| entry.start as usize + HEADER + entry.length as usize <= end;
-    let before = all.iter().take_while(ends).count();
+    let last = |entry: &Entry| entry.start as usize + HEADER_LENGTH + entry.value_length as usize;
+    let before = all.iter().take_while(|entry| last(entry) <= end).count();
     let broken = all.get(before).map(|entry| entry.start as usize);
-    let mut wanted = vec![Entry::default(); all.len()];
     let answer = match broken.filter(|&start| start < end) {
-        Some(start) => Err(Refusal {
-            number: if end - start < HEADER { 2 } else { 7 },
-            place: Some(start as u64),
-        }),
-        None => {
-            wanted[..before].copy_from_slice(&all[..before]);
-            Ok(before)
-        }
+        Some(start) if end - start < HEADER_LENGTH => Err(refusal(2, start)),
+        Some(start) => Err(refusal(7, start)),
+        None => Ok(all[..before].to_vec()),
     };
-    let mut entries = vec![Entry::default(); all.len()];
-    let scanned = vof::scan(front, &mut entries);
-    let same = scanned == answer && entries == wanted;
-    compare.hold("the scan of a front", &[front], same);
+    compare.hold("the scan of a front", &[front], vof::scan(front) == answer);
 }
 
 /// An answer of the lookup as demand 3 compares it: where the record stands plays no part.
@@ -166,7 +158,10 @@ type Answer = Option<(Vec<u8>, bool, Vec<u8>)>;
 
 fn answer(pack: &[u8], name: &Identifier) -> Answer {
     let found = vof::current(pack, &name.bucket, &name.object).unwrap();
-    found.map(|found| (found.ulid.to_vec(), found.deleted, found.bytes.to_vec()))
+    found.map(|found| {
+        let ulid = found.identifier.ulid().to_vec();
+        (ulid, found.is_delete_marker, found.value.to_vec())
+    })
 }
 
 fn plain_answer(pack: &[u8], name: &Identifier) -> Answer {

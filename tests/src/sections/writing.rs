@@ -65,3 +65,29 @@ pub fn calls(compare: &mut Compare, random: &mut Random) {
         compare.write_pack_list(1, &part.shortest());
     }
 }
+
+/// Of identifiers, good and bad, and of flags that are any number.
+pub fn version_parts(compare: &mut Compare, random: &mut Random) {
+    const FLAGS: [u64; 8] = [0, 0, 1, 1, 2, 256, 1 << 32, u64::MAX];
+    for _ in 0..20_000 {
+        let mut composite = any_identifier(random).to_text();
+        if random.once_in(3) {
+            let at = random.below(composite.len());
+            match random.below(3) {
+                0 => composite[at] = random.byte(),
+                1 => composite.truncate(at),
+                _ => composite.insert(at, random.of(b"/:I80")),
+            }
+        }
+        let used = used(random, 32 + 5 + 11 + composite.len());
+        compare.version_of(used, &composite, random.of(&FLAGS));
+    }
+    for bucket in 0..66 {
+        for object in (0..34).chain(254..258).chain(1022..1027) {
+            let (bucket, object) = ("b".repeat(bucket), "o".repeat(object));
+            let composite = format!("{}:{bucket}/{object}", ULIDS[3]);
+            compare.version_of(0, composite.as_bytes(), 0);
+            compare.version_of(0, composite.as_bytes(), 1);
+        }
+    }
+}

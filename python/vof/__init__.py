@@ -17,36 +17,90 @@ A pack too long for memory comes in parts, through a Pipe:
         for entry in vof.stream(file):
             print(entry.start, entry.tag)
 
-What is refused raises Refusal; docs/REFUSALS.md says what each number means and what to do.
+What is refused raises Refusal, which says why and what to do; Refused names the numbers.
 
 Packs, values and parts are bytes, or anything else that lends its memory, as a bytearray or an
 mmap; no other thread may change it during a call. It is not copied, unless it is read-only and not
 bytes: map a large file with mmap.ACCESS_COPY. Names and identifiers may be str too, which stands
 for its UTF-8. Answers have bytes, and tell places, counted from 0.
 
-The write functions put one record a call into a lent buffer, as a bytearray: each is told how many
-bytes at the front are the pack so far, 0 at first, puts its record directly after them and gives
-the new count. Refusals: 20 for what is not admitted, or would make the pack too long; 19 where the
-record does not fit into the buffer.
+A Writer makes a pack, and grows as it is written. The write functions put one record a call into a
+lent buffer, as a bytearray: each is told how many bytes at the front are the pack so far, 0 at
+first, puts its record directly after them and gives the new count. Refusals: 20 for what is not
+admitted, or would make the pack too long, and because of what; 19 where the record does not fit
+into the buffer.
 
-bin/build-library makes the shared object that this module loads, dist/libvof.so; the environment
-variable VOF_LIBRARY names another.
+The shared object that this module loads stands beside it, as libvof.so; in the repository that is a
+link to dist/libvof.so, which bin/build-library makes. The environment variable VOF_LIBRARY names
+another.
 """
 import ctypes
 import os
-from typing import NamedTuple, Optional
+import struct
+from enum import Enum
+from mmap import mmap
+from typing import Any, Callable, Iterator, List, NamedTuple, Optional, Sequence, Tuple, Union
+
+from .refusals import TEXTS, Refused
+
+# What lends its memory, and what may be text too.
+Data = Union[bytes, bytearray, memoryview, mmap]
+Text = Union[str, Data]
+
+# The bytes of a record before its value, and of a ULID; the longest bucket, object, composite text
+# and primary part that version_part makes; the longest pack, and the longest that comes in parts.
+HEADER_LENGTH, ULID_LENGTH = 32, 26
+BUCKET_LIMIT, OBJECT_LIMIT, COMPOSITE_LIMIT, VERSION_PART_LIMIT = 63, 1024, 1115, 1129
+PACK_LIMIT, PIPE_LIMIT = 4294967295, 1 << 40
 
 
 class Refusal(Exception):
-    """A refusal: its number, and the start of the record at fault, or None where none is named."""
+    """A refusal: its number, and the start of the record at fault, or None where none is named.
 
-    def __init__(self, number, place=None):
-        super().__init__(number, place)
-        self.number, self.place = number, place
+    Of a record that is not written, because is the number that a reader would give it, or 1 where
+    the pack is full."""
 
-    def __str__(self):
+    def __init__(
+        self, number: int, place: Optional[int] = None, because: Optional[int] = None
+    ) -> None:
+        super().__init__(number, place, because)
+        self.number, self.place, self.because = Refused(number), place, because
+
+    @property
+    def reason(self) -> str:
+        """Why, in a few words."""
+        return TEXTS[self.number][0]
+
+    @property
+    def advice(self) -> str:
+        """What to do about it."""
+        return TEXTS[self.number][1]
+
+    def __str__(self) -> str:
         at = "" if self.place is None else " at %d" % self.place
-        return "refused %d%s" % (self.number, at)
+        told = "refused %d%s: %s" % (self.number, at, self.reason)
+        if self.because is not None:
+            told += ", by %d: %s" % (self.because, TEXTS[self.because][0])
+        return told
+
+
+class Tag(bytes, Enum):
+    """The tags of records that can be read one by one."""
+
+    BLOCK = b"bk"
+    VERSION = b"vr"
+    VERSION_DELETE = b"vd"
+    PACK_LIST = b"ol"
+
+
+class Reason(str, Enum):
+    """Why a version record is current, or is not; in the order of include/vof.h."""
+
+    CURRENT = "current"
+    CURRENT_MARKER = "current marker"
+    OLDER = "older"
+    REPEATED = "repeat"
+    REMOVED = "removed"
 
 
 class Entry(NamedTuple):
@@ -82,12 +136,12 @@ class Identifier(NamedTuple):
     bucket: bytes
     object: bytes
 
-    def composite(self):
+    def composite(self) -> bytes:
         """The identifier as one text; refused if the text would read as another identifier."""
         parts = Identifier(*map(_text, self))
         text = b"%b:%b/%b" % parts
         if _split(text) != parts:
-            raise Refusal(20)
+            raise Refusal(Refused.NOT_ADMITTED, because=Refused.NAME_BREAKS_RULES)
         return text
 
 
@@ -124,11 +178,10 @@ class Version(NamedTuple):
 
 
 class Line(NamedTuple):
-    """A version record of a name, and why it is current or is not: "current", "current marker",
-    "older", "repeat" or "removed"."""
+    """A version record of a name, and why it is current or is not."""
 
     start: int
-    reason: str
+    reason: Reason
     # Where another record starts: of an older one the current one, of a repeat the earliest with its
     # identifier, of a removed one the earliest deletion of it; of the current one its own start.
     place: int
@@ -175,6 +228,7 @@ _FUNCTIONS = {
     "vof_pack_list": _READ + _TOLD,
     "vof_find_block": _READ + [_NUMBER] + _TOLD,
     "vof_write_block": _WRITE + _READ * 2,
+    "vof_version_part": _READ * 2 + [_NUMBER],
     "vof_write_version": _WRITE + _READ,
     "vof_write_delete": _WRITE + _READ,
     "vof_write_pack_list": _WRITE + _READ,
@@ -186,9 +240,9 @@ _FUNCTIONS = {
 _VERSION = 2
 
 
-def _load():
-    root = os.path.dirname(os.path.dirname(os.path.realpath(__file__)))
-    path = os.environ.get("VOF_LIBRARY") or os.path.join(root, "dist", "libvof.so")
+def _load() -> ctypes.CDLL:
+    beside = os.path.join(os.path.dirname(os.path.realpath(__file__)), "libvof.so")
+    path = os.environ.get("VOF_LIBRARY") or beside
     if not os.path.exists(path):
         raise ImportError("vof: there is no %s; bin/build-library makes dist/libvof.so" % path)
     library = ctypes.CDLL(os.path.abspath(path))
@@ -210,7 +264,7 @@ _OF_PACK = range(1, 9)
 _OF_LOOKUP = (*range(1, 19), 22)
 
 
-def _word(answer, placed=_OF_PACK):
+def _word(answer: int, placed: Sequence[int] = _OF_PACK) -> int:
     """The word of an answer; a refusal is raised, with its place where it is one of these."""
     word, number = divmod(answer, 256)
     if number:
@@ -218,23 +272,23 @@ def _word(answer, placed=_OF_PACK):
     return word
 
 
-def _text(text):
+def _text(text: Text) -> bytes:
     return text.encode() if isinstance(text, str) else bytes(memoryview(text))
 
 
-def _split(composite):
-    bucket, _, object = composite[27:].partition(b"/")
-    return Identifier(composite[:26], bucket, object)
+def _split(composite: bytes) -> Identifier:
+    bucket, _, object = composite[ULID_LENGTH + 1 :].partition(b"/")
+    return Identifier(composite[:ULID_LENGTH], bucket, object)
 
 
-def _view(data):
+def _view(data: Data) -> memoryview:
     view = memoryview(data)
     if view.itemsize != 1 or view.ndim != 1 or not view.contiguous:
         raise TypeError("vof: bytes in one piece are wanted")
     return view
 
 
-def _writable(view):
+def _writable(view: memoryview) -> Tuple[Any, int]:
     """The memory of a view, and its length.
 
     Callers keep it in no variable: a refusal would keep that, and lent bytearrays cannot grow.
@@ -242,7 +296,7 @@ def _writable(view):
     return (ctypes.c_ubyte * len(view)).from_buffer(view), len(view)
 
 
-def _lent(data):
+def _lent(data: Data) -> Tuple[Any, int]:
     """The same of data that is only read."""
     if not isinstance(data, bytes):
         view = _view(data)
@@ -252,36 +306,38 @@ def _lent(data):
     return data, len(data)
 
 
-def _address(memory):
+def _address(memory: Any) -> int:
     """Where lent memory starts. (ctypes.cast would keep it until garbage is collected.)"""
     if isinstance(memory, bytes):
         return ctypes.c_void_p.from_buffer(ctypes.c_char_p(memory)).value
     return ctypes.addressof(memory)
 
 
-def _apart(data):
+def _apart(data: Text) -> Tuple[Any, int]:
     """The same beside a buffer that is written: of what could overlap it, a copy."""
     return _lent(data if isinstance(data, bytes) else _text(data))
 
 
-def _composite(identifier):
+def _composite(identifier: Union[Identifier, Text]) -> Tuple[Any, int]:
     return _apart(identifier.composite() if isinstance(identifier, Identifier) else identifier)
 
 
-def _size(n):
+def _size(n: int) -> int:
     """A place or a count; one that C could not hold is outside every pack, as the greatest is."""
     return n if 0 <= n < 2**64 else 2**64 - 1
 
 
-def _numbers(count):
+def _numbers(count: int) -> Any:
     return (ctypes.c_uint64 * count)()
 
 
-def _tag(number):
+def _tag(number: int) -> bytes:
     return number.to_bytes(2, "big")
 
 
-def _parts(primary, has_secondary, secondary, encoding):
+def _parts(
+    primary: Sequence[int], has_secondary: int, secondary: Sequence[int], encoding: Sequence[int]
+) -> Tuple[Part, Optional[Part]]:
     """The primary and the secondary part from their starts, lengths and encodings."""
     first = Part(*primary, encoding[0], bool(encoding[1]))
     return first, Part(*secondary, encoding[2], bool(encoding[3])) if has_secondary else None
@@ -290,32 +346,39 @@ def _parts(primary, has_secondary, secondary, encoding):
 # ---- reading
 
 
-def xxh64(data):
+def version() -> int:
+    """The version of the library, and of include/vof.h."""
+    return _library.vof_version()
+
+
+def xxh64(data: Data) -> int:
     """The XXH64 of the data, seed 0."""
     return _library.vof_xxh64(*_lent(data))
 
 
-def _rows(width, pack, placed, function, *given):
+def _rows(
+    width: int, pack: Data, placed: Sequence[int], function: Callable[..., int], *given: Any
+) -> Iterator[Tuple[int, ...]]:
     """What a function tells of the records of a pack, so many numbers for each."""
-    most = len(_view(pack)) // 32
+    most = len(_view(pack)) // HEADER_LENGTH
     room = min(most, 4096)
     # How many rows there are is known after the check, and only to a list that is long enough.
     while True:
         told = _numbers(width * room)
         answer = function(*_lent(pack), *given, told, len(told))
-        if answer % 256 != 19 or room == most:
+        if answer % 256 != Refused.NO_ROOM or room == most:
             break
         room = min(most, 16 * room)
     return zip(*[iter(told[: width * _word(answer, placed)])] * width)
 
 
-def scan(pack):
+def scan(pack: Data) -> List[Entry]:
     """Checks a pack, and gives a list with an Entry for each record. Refusals 1 to 8."""
     rows = _rows(4, pack, _OF_PACK, _library.vof_scan)
     return [Entry(start, _tag(tag), length, hash) for start, tag, length, hash in rows]
 
 
-def find_hash(entries, hash):
+def find_hash(entries: Sequence[Entry], hash: int) -> Optional[int]:
     """The index in a list that scan gave of the first Entry whose value has this hash, or None."""
     told = _numbers(4 * len(entries))
     told[3::4] = [entry.value_hash for entry in entries]
@@ -324,10 +387,10 @@ def find_hash(entries, hash):
     return word - 1 if word else None
 
 
-def record(pack, at):
+def record(pack: Data, at: int) -> Record:
     """The Record at a place of a pack; the rest of the pack is not looked at. Refusals 1 to 18, 21
     and 22, and 20 for a place that is not inside the pack."""
-    told, composite = _numbers(16), ctypes.create_string_buffer(1115)
+    told, composite = _numbers(16), ctypes.create_string_buffer(COMPOSITE_LIMIT)
     _word(_library.vof_record(*_lent(pack), _size(at), told, 16, composite, len(composite)))
     # In the order of include/vof.h; so too below.
     by = Place(*told[14:16])
@@ -343,7 +406,7 @@ def record(pack, at):
     )
 
 
-def value(value):
+def value(value: Data) -> Value:
     """A Value taken apart, for whoever opens compressed or encrypted parts: how they are encoded,
     and the structure's version, are told and not tested. Refusals 9 to 12 and 22."""
     told = _numbers(10)
@@ -351,27 +414,28 @@ def value(value):
     return Value(told[9], *_parts(told[0:2], told[2], told[3:5], told[5:9]))
 
 
-def current(pack, bucket, object):
+def current(pack: Data, bucket: Text, object: Text) -> Optional[Version]:
     """The current Version of an object, or None. If it is a delete marker, the object counts as
     deleted, whatever older versions there are. Refusals 1 to 8 of the pack, then 9 to 12, 14 to
     18 and 22 of its first version or version delete that cannot be read, all with the place; 20 for
     a name that breaks the rules."""
     bucket, object = _text(bucket), _text(object)
-    told, ulid = _numbers(4), ctypes.create_string_buffer(26)
+    told, ulid = _numbers(4), ctypes.create_string_buffer(ULID_LENGTH)
     names = *_lent(bucket), *_lent(object)
-    answer = _library.vof_current(*_lent(pack), *names, told, 4, ulid, 26)
+    answer = _library.vof_current(*_lent(pack), *names, told, 4, ulid, len(ulid))
     _word(answer, _OF_LOOKUP)
     found, start, value_length, is_delete_marker = told
     if not found:
         return None
     identifier = Identifier(ulid.raw, bucket, object)
-    return Version(identifier, bool(is_delete_marker), start, Place(start + 32, value_length))
+    place = Place(start + HEADER_LENGTH, value_length)
+    return Version(identifier, bool(is_delete_marker), start, place)
 
 
-_REASONS = "current", "current marker", "older", "repeat", "removed"
+_REASONS = tuple(Reason)
 
 
-def explain(pack, bucket, object):
+def explain(pack: Data, bucket: Text, object: Text) -> List[Line]:
     """A list with a Line for each version record of an object, in their order. Refusals as those of
     current."""
     names = *_lent(_text(bucket)), *_lent(_text(object))
@@ -385,7 +449,7 @@ def explain(pack, bucket, object):
 
 
 class Pipe:
-    """A pack of at most 2^40 bytes that comes in parts, of any length, empty ones too.
+    """A pack of at most PIPE_LIMIT bytes that comes in parts, of any length, empty ones too.
 
     However it is cut, its records and its refusal are those that scan would give of the whole, with
     this limit for its own; but those before a fault are told too. What is kept between parts has
@@ -398,11 +462,11 @@ class Pipe:
         print(pipe.end(), "records")
     """
 
-    def __init__(self):
+    def __init__(self) -> None:
         self._state = _numbers(19)
         _library.vof_pipe_start(self._state, 19)
 
-    def copy(self):
+    def copy(self) -> "Pipe":
         """A pipe that goes on from here by itself."""
         pipe = Pipe()
         pipe._state[:] = self._state[:]
@@ -410,7 +474,7 @@ class Pipe:
 
     __copy__ = copy
 
-    def _take(self, data):
+    def _take(self, data: Data) -> Tuple[List[Entry], int]:
         """The records that complete in the data, and the answer to the last call."""
         entries, told = [], _numbers(6)
         memory, left = _lent(data)
@@ -419,14 +483,14 @@ class Pipe:
             answer = _library.vof_pipe_take(self._state, 19, at, left, told, 6)
             if answer:
                 return entries, answer
-            taken, is_complete, start, tag, length, hash = told
+            taken, is_complete, start, tag, value_length, value_hash = told
             if is_complete:
-                entries.append(Entry(start, _tag(tag), length, hash))
+                entries.append(Entry(start, _tag(tag), value_length, value_hash))
             at, left = at + taken, left - taken
             if not left:
                 return entries, 0
 
-    def feed(self, data):
+    def feed(self, data: Data) -> Iterator[Entry]:
         """Takes the next bytes of the pack, and gives an iterator over an Entry for each record
         that completes in them. Refusals, after these and again at every later call: 1 past the
         limit, 3 to 6 once a header is whole, 8 once a value is. After the end nothing may be
@@ -434,20 +498,20 @@ class Pipe:
         if self._state[1] == 3:
             raise ValueError("vof: the end of the pack was announced")
 
-        def told(entries, answer):
+        def told(entries: List[Entry], answer: int) -> Iterator[Entry]:
             yield from entries
             _word(answer)
 
         return told(*self._take(data))
 
-    def end(self):
+    def end(self) -> int:
         """Announces the end of the pack, and gives the number of its records. Refusals 1 to 8: 2
         where the last header is not whole, 7 where the last value is not. So too when called
         again."""
         return _word(_library.vof_pipe_end(self._state, 19))
 
 
-def stream(source):
+def stream(source: Any) -> Iterator[Entry]:
     """An iterator over an Entry for each record of a pack, as it completes, that is read from a
     socket or a binary file up to its end. Refusals 1 to 8, after the records before the fault. The
     source must wait where there are no bytes yet."""
@@ -462,11 +526,11 @@ def stream(source):
 # ---- pack lists
 
 
-def _ulid(primary, start):
-    return bytes(_view(primary)[start : start + 26])
+def _ulid(primary: Data, start: int) -> bytes:
+    return bytes(_view(primary)[start : start + ULID_LENGTH])
 
 
-def pack_list(primary):
+def pack_list(primary: Data) -> List[PackEntry]:
     """A list with a PackEntry for each entry of a pack list, by its primary part. Refusals 16 to
     18, 21 and 22."""
     # No entry is shorter than 36 bytes.
@@ -479,7 +543,7 @@ def pack_list(primary):
     ]
 
 
-def find_block(primary, byte):
+def find_block(primary: Data, byte: int) -> Optional[Found]:
     """Where a byte of the version stands, by a pack list's primary part: a Found, in the first
     entry that has the byte, or None. Refusals 16 to 18, 21 and 22.
 
@@ -498,33 +562,145 @@ def find_block(primary, byte):
 # ---- writing
 
 
-def _buffer(buffer, used):
+def _around(tag: Tag, primary: bytes) -> bytes:
+    """A record around a primary part, whatever that is."""
+    value = struct.pack(">4sI", b"\x81\xa1e\xc6", len(primary)) + primary
+    fields = (b"\x89TLV\r\n\x1a\n", len(value), xxh64(value), 0, tag, 8)
+    header = struct.pack(">8sQQB2sBxx", *fields)
+    return header + struct.pack(">H", xxh64(header) % 65536) + value
+
+
+def _written(answer: int, because: Callable[[], int]) -> int:
+    """The new count; of what is not admitted, why is asked."""
+    if answer % 256 == Refused.NOT_ADMITTED:
+        raise Refusal(Refused.NOT_ADMITTED, because=because())
+    return _word(answer)
+
+
+def _buffer(buffer: Data, used: int) -> Tuple[Any, int, int]:
     return *_writable(_view(buffer)), _size(used)
 
 
-def write_block(buffer, used, identifier, data):
+def _write_part(
+    function: Callable[..., int], tag: Tag, buffer: Data, used: int, primary: Data
+) -> int:
+    part, length = _apart(primary)
+
+    def because() -> int:
+        """What a reader says of the record; where it says nothing, the pack is full."""
+        try:
+            if length <= PACK_LIMIT:
+                record(_around(tag, part), 0)
+        except Refusal as refusal:
+            return refusal.number
+        return Refused.PACK_TOO_LONG
+
+    return _written(function(*_buffer(buffer, used), part, length), because)
+
+
+def _write_named(
+    function: Callable[..., int], buffer: Data, used: int, names: Tuple[Any, ...], *data: Any
+) -> int:
+    def because() -> int:
+        """Good names lack nothing but room, in a buffer that has none."""
+        alone = function(b"", 0, 0, *names, *(b"", 0)[: len(data)])
+        good = alone % 256 == Refused.NO_ROOM
+        return Refused.PACK_TOO_LONG if good else Refused.NAME_BREAKS_RULES
+
+    return _written(function(*_buffer(buffer, used), *names, *data), because)
+
+
+def write_block(buffer: Data, used: int, identifier: Union[Identifier, Text], data: Data) -> int:
     """Writes a block. The identifier is an Identifier or its composite text."""
-    given = *_composite(identifier), *_apart(data)
-    return _word(_library.vof_write_block(*_buffer(buffer, used), *given))
+    names, function = _composite(identifier), _library.vof_write_block
+    return _write_named(function, buffer, used, names, *_apart(data))
 
 
-def write_version(buffer, used, primary):
+def version_part(identifier: Union[Identifier, Text], is_delete_marker: bool = False) -> bytes:
+    """The primary part of a version, or of a delete marker, with this identifier, which is an
+    Identifier or its composite text. Refusal 20 where that breaks the rules."""
+    part, names = ctypes.create_string_buffer(VERSION_PART_LIMIT), _composite(identifier)
+    answer = _library.vof_version_part(part, len(part), *names, bool(is_delete_marker))
+    return part.raw[: _written(answer, lambda: Refused.NAME_BREAKS_RULES)]
+
+
+def write_version(buffer: Data, used: int, primary: Data) -> int:
     """Writes a version with this primary part, which must read as one."""
-    return _word(_library.vof_write_version(*_buffer(buffer, used), *_apart(primary)))
+    return _write_part(_library.vof_write_version, Tag.VERSION, buffer, used, primary)
 
 
-def write_delete(buffer, used, primary):
+def write_version_of(
+    buffer: Data,
+    used: int,
+    identifier: Union[Identifier, Text],
+    is_delete_marker: bool = False,
+) -> int:
+    """Writes a version, or a delete marker, with the primary part that version_part makes."""
+    return write_version(buffer, used, version_part(identifier, is_delete_marker))
+
+
+def write_delete(buffer: Data, used: int, primary: Data) -> int:
     """Writes a version delete with this primary part, which must read as one."""
-    return _word(_library.vof_write_delete(*_buffer(buffer, used), *_apart(primary)))
+    return _write_part(_library.vof_write_delete, Tag.VERSION_DELETE, buffer, used, primary)
 
 
-def write_pack_list(buffer, used, primary):
+def write_pack_list(buffer: Data, used: int, primary: Data) -> int:
     """Writes a pack list with this primary part, which must read as one."""
-    return _word(_library.vof_write_pack_list(*_buffer(buffer, used), *_apart(primary)))
+    return _write_part(_library.vof_write_pack_list, Tag.PACK_LIST, buffer, used, primary)
 
 
-def write_delete_of(buffer, used, identifier, delete_ulid):
+def write_delete_of(
+    buffer: Data, used: int, identifier: Union[Identifier, Text], delete_ulid: Text
+) -> int:
     """Writes a version delete of the version that the identifier, an Identifier or its composite
     text, names; it has a delete ULID of its own."""
-    given = *_composite(identifier), *_apart(delete_ulid)
-    return _word(_library.vof_write_delete_of(*_buffer(buffer, used), *given))
+    names = *_composite(identifier), *_apart(delete_ulid)
+    return _write_named(_library.vof_write_delete_of, buffer, used, names)
+
+
+class Writer:
+    """A pack, empty or as it is handed in, to which each method adds a record and tells where it
+    starts: as the write function of that name does, but for 19. Its bytes() are the pack, its len()
+    how long that is."""
+
+    def __init__(self, pack: Data = b"") -> None:
+        self._buffer = bytearray(pack)
+        self._used = len(self._buffer)
+
+    def __bytes__(self) -> bytes:
+        return bytes(memoryview(self._buffer)[: self._used])
+
+    def __len__(self) -> int:
+        return self._used
+
+    def _add(self, write: Callable[..., int], *given: Any) -> int:
+        """The buffer grows until the record fits."""
+        start = self._used
+        while True:
+            try:
+                self._used = write(self._buffer, start, *given)
+                return start
+            except Refusal as refusal:
+                if refusal.number != Refused.NO_ROOM:
+                    raise
+            self._buffer.extend(bytes(max(len(self._buffer), 4096)))
+
+    def block(self, identifier: Union[Identifier, Text], data: Data) -> int:
+        return self._add(write_block, identifier, data)
+
+    def version(self, primary: Data) -> int:
+        return self._add(write_version, primary)
+
+    def version_of(
+        self, identifier: Union[Identifier, Text], is_delete_marker: bool = False
+    ) -> int:
+        return self._add(write_version_of, identifier, is_delete_marker)
+
+    def delete(self, primary: Data) -> int:
+        return self._add(write_delete, primary)
+
+    def pack_list(self, primary: Data) -> int:
+        return self._add(write_pack_list, primary)
+
+    def delete_of(self, identifier: Union[Identifier, Text], delete_ulid: Text) -> int:
+        return self._add(write_delete_of, identifier, delete_ulid)
