@@ -42,7 +42,10 @@ pub(crate) fn run(ulid: &[u8]) {
     let b = read_field(&mut bucket);
     let o = read_field(&mut object);
     let other = read_identifier();
-    say_made(held_identifier::from_parts(ulid, &bucket[0..b], &object[0..o]), other);
+    say_made(
+        held_identifier::from_parts(ulid, &bucket[0..b], &object[0..o]),
+        other,
+    );
     say_number(
         b'~',
         held_identifier::has_name(other, &bucket[0..b], &object[0..o]) as usize,
