@@ -18,10 +18,10 @@ use Rattle.slices.specs.declared.Place.{Place}
 use Rattle.refusals.specs.Limit.{packLimit}
 use Rattle.identifier.specs.Composite.{compositeText}
 use Rattle.identifier.specs.Identity.{Identity, isValid}
-use Rattle.identifier.specs.Writing.{wrote, refused, outcomeOf, outcome as written, left, write-short, write-done}
-use Rattle.identifier.specs.declared.Written.{Written}
-use Rattle.identifier.specs.declared.Written.the-variants.{Bytes, Inadmissible, Short}
-use Rattle.identifier.proofs.Written.{the-type}
+use Rattle.held_identifier.specs.Writing.{wrote, refused, outcomeOf, outcome as written, left, write-short, write-done}
+use Rattle.held_identifier.specs.declared.Written.{Written}
+use Rattle.held_identifier.specs.declared.Written.the-variants.{Bytes, Inadmissible, Short}
+use Rattle.held_identifier.proofs.Written.{the-type}
 use Rattle.value.specs.declared.Told.{Told}
 use Rattle.primary.specs.Answers.{textsIn}
 use Rattle.records.specs.Record.{versionDelete, Record, primaryIn, AtPlace, there, refusedAt, alone, recordAt, toldFrom, recordFrom, thereFrom}

@@ -2,13 +2,13 @@
 ghost use mathlib.Core.Path.{_≡_};
 ghost use mathlib.Core.Option.{some};
 ghost use Prim.Native.Nat.{ℕ};
-ghost use Rattle.identifier.specs.Writing.{outcomeOf, outcome, left};
+ghost use Rattle.held_identifier.specs.Writing.{outcomeOf, outcome, left};
 ghost use Rattle.value.specs.declared.Told.{Told};
 ghost use Rattle.primary.specs.Answers.{textsIn};
 ghost use Rattle.records.specs.Record.{toldFrom};
 ghost use Rattle.capi_records.specs.Record.{RecordHolds, recordWords, kindTold, IsRecord};
 use crate::values;
-use identifier::Written;
+use held_identifier::Written;
 use primary::Texts;
 use records::AtPlace;
 use records::Kind;
@@ -91,7 +91,7 @@ fn write_text(id: &mut [u8], pack: &[u8], t: Texts) -> Written
     ensures answer { λ r. ⌜ outcomeOf r ≡ outcome (some (textsIn (now (pack .entry)) t)) (now (id .entry)) 0 ⌝ }
     ensures holds { λ _. ⌜ now (id .exit) ≡ left (some (textsIn (now (pack .entry)) t)) (now (id .entry)) 0 ⌝ }
 {
-    identifier::write_parts(
+    held_identifier::write_parts(
         id,
         0,
         slices::part(pack, t.ulid),

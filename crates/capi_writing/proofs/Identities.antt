@@ -9,8 +9,8 @@ use lib.ListN.{length, replicate}
 use Rattle.refusals.specs.Limit.{packLimit}
 use Rattle.identifier.specs.Identity.{Identity, identity, isValid, sizes}
 use Rattle.identifier.specs.Composite.{identityIn, reads-text}
-use Rattle.identifier.specs.Held.{named, answered, zeros, named-held}
-use Rattle.identifier.specs.declared.Reading.{Reading}
+use Rattle.held_identifier.specs.Held.{named, answered, zeros, named-held}
+use Rattle.held_identifier.specs.declared.Reading.{Reading}
 use Rattle.writer.specs.Writing.{Item, admitted, ofIdentity, answerOf, written, bufferAfter, versionPartOf}
 use Rattle.writer.specs.declared.Written.{Written}
 

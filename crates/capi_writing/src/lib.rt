@@ -30,7 +30,7 @@ pub extern "C" fn vof_write_block(buf: &mut [u8], used: usize, id: &[u8], conten
     ensures buffer { λ _. ⌜ now (buf .exit)
         ≡ bufferAfter packLimit used (ofIdentity (λ i. block i (now (content .entry))) (identityIn (now (id .entry)))) (now (buf .entry)) ⌝ }
 {
-    let read = identifier::read_composite(id);
+    let read = held_identifier::read_composite(id);
     let identifier = read.id;
     word_of(writer::write_block(buf, used, identifier, content))
 }
@@ -76,7 +76,7 @@ pub extern "C" fn vof_write_delete_of(
     ensures buffer { λ _. ⌜ now (buf .exit)
         ≡ bufferAfter packLimit used (ofIdentity (λ i. deletion i (now (deleteid .entry))) (identityIn (now (id .entry)))) (now (buf .entry)) ⌝ }
 {
-    let read = identifier::read_composite(id);
+    let read = held_identifier::read_composite(id);
     let identifier = read.id;
     word_of(writer::write_delete_of(buf, used, identifier, deleteid))
 }
@@ -88,7 +88,7 @@ pub extern "C" fn vof_version_part(out: &mut [u8], id: &[u8], marker: u64) -> u6
     ensures answer { λ r. ⌜ r ≡ writtenWord (partWritten (length (now (out .entry))) (versionPartOf (isSet marker) (identityIn (now (id .entry))))) ⌝ }
     ensures buffer { λ _. ⌜ now (out .exit) ≡ partAfter (versionPartOf (isSet marker) (identityIn (now (id .entry)))) (now (out .entry)) ⌝ }
 {
-    let read = identifier::read_composite(id);
+    let read = held_identifier::read_composite(id);
     let identifier = read.id;
     word_of(writer::write_version_part(out, identifier, marker != 0))
 }

@@ -10,7 +10,7 @@ use Rattle.pack.specs.Reading.{Ending, whole, refused, reading}
 use Rattle.pack.specs.declared.Entry.{Entry}
 use Rattle.identifier.specs.Texts.{less}
 use Rattle.identifier.specs.Identity.{Identity, sameIdentity, isBucket, isObject}
-use Rattle.identifier.specs.Held.{hasName}
+use Rattle.held_identifier.specs.Held.{hasName}
 use Rattle.records.specs.Record as records
 use Rattle.records.specs.Record.{versionTag, versionDeleteTag, readRecord}
 

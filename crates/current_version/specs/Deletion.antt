@@ -11,7 +11,7 @@ use Rattle.refusals.specs.Answers.{isResult, result}
 use Rattle.tlv.specs.Layout.{Record, Fits, layout, layouts}
 use Rattle.pack.specs.Acceptance.{AllFit}
 use Rattle.identifier.specs.Identity.{Identity, sameIdentity, sameIdentity-refl, sameIdentity-true}
-use Rattle.identifier.specs.Held.{hasName}
+use Rattle.held_identifier.specs.Held.{hasName}
 use Rattle.records.specs.Record as records
 use Rattle.records.specs.Record.{versionDeleteTag, readRecord, canBeRead}
 use Rattle.current_version.specs.Current.{Role, version, deletion, other, unreadable, role, versionBy, versionOf, filtered, better, best, deletes, isDeleted, isLive, current, isName, lookup}

@@ -12,7 +12,7 @@ use Rattle.pack.specs.Reading.{Ending, whole, refused, reading}
 use Rattle.identifier.specs.Texts.{less}
 use Rattle.identifier.specs.Order.{less-irreflexive, neither-less}
 use Rattle.identifier.specs.Identity.{Identity, sameIdentity, sameIdentity-refl, sameIdentity-true}
-use Rattle.identifier.specs.Held.{hasName}
+use Rattle.held_identifier.specs.Held.{hasName}
 use Rattle.current_version.specs.Current.{Role, version, deletion, other, unreadable, Placed, placed, Version, versionOf, deletes, isDeleted, isLive, current, Answer, nothing, found, refusedAt, alone, unreadableFirst, readability, unlessRefused, answerOf, answerIn, isName, lookup}
 use Rattle.current_version.specs.Best.{ulidOf, Passes, best-greatest, best-none, best-found, found-best, none-best}
 

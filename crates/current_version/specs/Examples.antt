@@ -22,7 +22,7 @@ use Rattle.msgpack.specs.Views.{repeats, textAt, itemsFrom}
 use Rattle.identifier.specs.Texts.{member, all, less}
 use Rattle.identifier.specs.Ulid.{alphabet, isCharacter, isUlid}
 use Rattle.identifier.specs.Identity.{sized, isBucket, isObject, identity, isValid, identityOf, sameIdentity}
-use Rattle.identifier.specs.Held.{hasName}
+use Rattle.held_identifier.specs.Held.{hasName}
 use Rattle.value.specs.Fields.{naturalUnder, bytesUnder, isThere}
 use Rattle.value.specs.Header.{withMap, withList, header}
 use Rattle.value.specs.Header as value-header

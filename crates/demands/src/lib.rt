@@ -3,11 +3,11 @@
 // and crates/writer_laws.
 ghost use mathlib.Core.Path.{_≡_};
 ghost use mathlib.Core.Option.{some};
-ghost use Rattle.identifier.specs.Held.{named};
+ghost use Rattle.held_identifier.specs.Held.{named};
 ghost use Rattle.writer.specs.Writing.{block, version, versionDelete, packList, deletion, ofIdentity, answerOf};
 ghost use Rattle.current_version.specs.Current.{isName};
 ghost use Rattle.demands.specs.Answers.{ofFront, CountInside, answersOf, lookedUp, WritesFor, DeletionInside, DeletionHolds, BothHold, readBackOf, readBehind, ReadInside, ReadBackHolds};
-use identifier::Identifier;
+use held_identifier::Identifier;
 use lookup::Found;
 use records::AtPlace;
 use writer::Written;

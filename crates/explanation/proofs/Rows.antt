@@ -12,7 +12,7 @@ use borrow.Author.Tests.{eq-eqb, ne-eqb}
 use Rattle.slices.specs.Places.{partAt}
 use Rattle.slices.specs.declared.Place.{Place}
 use Rattle.identifier.specs.Identity.{Identity, identity}
-use Rattle.identifier.specs.Held.{hasName}
+use Rattle.held_identifier.specs.Held.{hasName}
 use Rattle.primary.specs.Answers.{textsIn}
 use Rattle.primary.specs.declared.Texts.{Texts}
 use Rattle.current_version.specs.Current.{Placed, Version, versionBy, versionOf, filtered}

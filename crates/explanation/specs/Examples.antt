@@ -6,7 +6,7 @@ use mathlib.Core.Path.{_≡_, refl}
 use Rattle.slices.specs.Bytes.{sameBytes}
 use Rattle.identifier.specs.Texts.{less}
 use Rattle.identifier.specs.Identity.{Identity, identity, sameIdentity}
-use Rattle.identifier.specs.Held.{hasName}
+use Rattle.held_identifier.specs.Held.{hasName}
 use Rattle.current_version.specs.Current as current-answer
 use Rattle.current_version.specs.Current.{Role, version, deletion, other, Placed, versionOf, filtered, better, best, deletes, isDeleted, isLive}
 use Rattle.explanation.specs.Reasons.{firstWhere, holds, reasonOf, versionsOf, linesOf, rowsOf}

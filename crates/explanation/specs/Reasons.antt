@@ -6,7 +6,7 @@ use mathlib.Core.Option.{Option, none, some}
 use lib.Dec.{eqb}
 use Rattle.pack.specs.Reading.{reading}
 use Rattle.identifier.specs.Identity.{Identity, sameIdentity}
-use Rattle.identifier.specs.Held.{hasName}
+use Rattle.held_identifier.specs.Held.{hasName}
 use Rattle.current_version.specs.Current as current-answer
 use Rattle.current_version.specs.Current.{Role, version, deletion, other, unreadable, Placed, placed, Version, versionOf, filtered, deletes, lookup}
 

@@ -1,5 +1,3 @@
 pub mod Loops
 pub mod Rules
-pub mod Structs
-pub mod Buffers
 mod Ranges

@@ -4,6 +4,3 @@ pub mod Ulid
 pub mod Numbers
 pub mod Identity
 pub mod Composite
-pub mod Held
-pub mod Writing
-pub mod RoundTrips

@@ -17,7 +17,7 @@ use Rattle.identifier.specs.Texts.{member, all, less}
 use Rattle.identifier.specs.Order.{less-irreflexive, less-transitive}
 use Rattle.identifier.specs.Ulid.{alphabet, isCharacter, isUlid, ulid-written}
 use Rattle.identifier.specs.Identity.{Identity, identity, sameIdentity, isBucket, isObject, isValid}
-use Rattle.identifier.specs.Held.{hasName}
+use Rattle.held_identifier.specs.Held.{hasName}
 use Rattle.current_version.specs.Current.{Role, version, deletion, other, unreadable, Placed, valueOf, placed, Version, versionOf, filtered, best, deletes, isDeleted, isLive, current}
 use Rattle.current_version.specs.Roles.{version-told, version-role}
 use Rattle.current_version.specs.Best.{ulidOf, Passes, Best, best-member, best-greatest, best-same, best-none, best-found, found-best, none-best}

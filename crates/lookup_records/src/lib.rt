@@ -5,7 +5,7 @@ ghost use mathlib.Core.Option.{some};
 ghost use Rattle.refusals.specs.Limit.{packLimit};
 ghost use Rattle.slices.specs.Places.{partAt};
 ghost use Rattle.identifier.specs.Identity.{identity, sameIdentity};
-ghost use Rattle.identifier.specs.Held.{hasName};
+ghost use Rattle.held_identifier.specs.Held.{hasName};
 ghost use Rattle.primary.specs.Answers.{textsIn};
 ghost use Rattle.records.specs.Answers.{placeOfPart};
 ghost use Rattle.current_version.specs.Current.{deletes};

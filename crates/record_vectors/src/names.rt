@@ -4,7 +4,7 @@ use crate::input::read_number;
 use crate::show;
 use crate::show::say_number;
 use crate::show::say_refusal;
-use identifier::Identifier;
+use held_identifier::Identifier;
 
 // ULID, bucket and object, with slashes behind them in the arrays, where they play no part; and the
 // lengths told of bucket and object, which may be wrong.
@@ -25,10 +25,10 @@ pub(crate) fn read_identifier() -> Identifier {
 }
 
 // The identifier of the texts, and whether the other is the same.
-fn say_made(r: identifier::Reading, other: Identifier) {
+fn say_made(r: held_identifier::Reading, other: Identifier) {
     if r.valid {
         show::say_identifier(r.id);
-        say_number(b'=', identifier::same_identifier(r.id, other) as usize);
+        say_number(b'=', held_identifier::same_identifier(r.id, other) as usize);
     } else {
         say_refusal(18);
     }
@@ -43,11 +43,11 @@ pub(crate) fn run(ulid: &[u8]) {
     let o = read_field(&mut object);
     let other = read_identifier();
     say_made(
-        identifier::from_parts(ulid, &bucket[0..b], &object[0..o]),
+        held_identifier::from_parts(ulid, &bucket[0..b], &object[0..o]),
         other,
     );
     say_number(
         b'~',
-        identifier::has_name(other, &bucket[0..b], &object[0..o]) as usize,
+        held_identifier::has_name(other, &bucket[0..b], &object[0..o]) as usize,
     );
 }

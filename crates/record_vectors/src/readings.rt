@@ -19,7 +19,7 @@ pub(crate) fn composite(text: &[u8]) {
         Split::Slash(n) => say_number(b'/', n),
         Split::Malformed => say_refusal(18),
     }
-    let r = identifier::read_composite(text);
+    let r = held_identifier::read_composite(text);
     if r.valid {
         show::say_identifier(r.id);
     } else {

@@ -2,7 +2,7 @@
 // of the format, and in an entry of a pack list `p`, `o`, `t`, `E` and `N`; `u`, `b` and `o` ULID, bucket
 // and object, `?` a delete identifier; `@` is a place, `l` a length, `n` a count, `t` a tag, `P` an
 // entry's number, `#` a block's; `=` is whether two identifiers are the same, `~` whether one has a name.
-use identifier::Identifier;
+use held_identifier::Identifier;
 use libc::STDOUT_FILENO;
 use primary::Texts;
 use slices::Place;

@@ -11,8 +11,8 @@ use Rattle.slices.specs.Logic.{both}
 use Rattle.refusals.specs.Limit.{packLimit}
 use Rattle.identifier.specs.Ulid.{isUlid}
 use Rattle.identifier.specs.Identity.{Identity, identity, isValid}
-use Rattle.identifier.specs.Held.{named, isAdmitted}
-use Rattle.identifier.specs.declared.Identifier.{Identifier}
+use Rattle.held_identifier.specs.Held.{named, isAdmitted}
+use Rattle.held_identifier.specs.declared.Identifier.{Identifier}
 use Rattle.writer.specs.Writing.{Item, deletion, itemBytes, admitted, ofIdentity, answerOf, written, bufferAfter, Stores}
 use Rattle.writer.specs.declared.Written.{Written}
 use Rattle.writer.specs.declared.Written.the-variants.{Inadmissible}

@@ -10,7 +10,7 @@ use Rattle.slices.specs.Overwriting.{writtenBytes, length-overwritten}
 use Rattle.msgpack_heads.specs.Heads.{textHead, nextPlace}
 use Rattle.identifier.specs.Identity.{Identity, isValid}
 use Rattle.identifier.specs.Composite.{compositeText}
-use Rattle.identifier.specs.Writing.{left, write-done}
+use Rattle.held_identifier.specs.Writing.{left, write-done}
 use Rattle.writer.specs.Values.{textItem}
 use Rattle.writer.specs.Putting.{Puts, toldPlace}
 use Rattle.writer.proofs.Chains.{first-fits, next-fits, puts-both, head-put}

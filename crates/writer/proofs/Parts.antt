@@ -7,7 +7,7 @@ use mathlib.Core.Path.{_≡_, refl}
 use borrow.Author.Tests.{le-leb, lt-leb}
 use lib.ListN.{length}
 use Rattle.identifier.specs.Identity.{Identity}
-use Rattle.identifier.specs.Held.{isAdmitted}
+use Rattle.held_identifier.specs.Held.{isAdmitted}
 use Rattle.writer.specs.Putting.{Puts}
 use Rattle.writer.specs.Writing.{versionPartOf, partWritten, partAfter, StoresPart}
 use Rattle.writer.specs.declared.Written.the-variants.{Count, Short}

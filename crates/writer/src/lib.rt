@@ -16,12 +16,12 @@ ghost use Rattle.msgpack_heads.specs.Heads.{textHead, binaryHead, unsignedInteg
 ghost use Rattle.identifier.specs.Identity.{identity, isValid};
 ghost use Rattle.identifier.specs.Ulid.{isUlid};
 ghost use Rattle.identifier.specs.Composite.{compositeText};
-ghost use Rattle.identifier.specs.Held.{named};
+ghost use Rattle.held_identifier.specs.Held.{named};
 ghost use Rattle.records.specs.Record.{blockTag, versionDeleteTag};
 ghost use Rattle.writer.specs.Values.{textItem, pair, primaryHeader, secondaryHeader, blockHeader, partHeader, blockPart, blockValue, partValue, identityPairs, versionPart, deletePart};
 ghost use Rattle.writer.specs.Putting.{Puts, toldPlace, fieldBytes};
 ghost use Rattle.writer.specs.Writing.{block, version, versionDelete, packList, deletion, recordOf, ofIdentity, answerOf, counted, Stores, written, bufferAfter, versionPartOf, partWritten, partAfter, StoresPart};
-use identifier::Identifier;
+use held_identifier::Identifier;
 use pack_list::Reading;
 use primary::DeleteRead;
 use primary::VersionRead;
@@ -186,7 +186,7 @@ fn put_composite(out: &mut [u8], at: usize, ulid: &[u8], bucket: &[u8], object: 
 {
     let n = 28 + bucket.len() + object.len();
     let start = place(msgpack_heads::write_text_head(out, at, n as u32));
-    let _ = identifier::write_parts(out, start, ulid, bucket, object);
+    let _ = held_identifier::write_parts(out, start, ulid, bucket, object);
     start + n
 }
 
@@ -500,7 +500,7 @@ pub fn write_block(buf: &mut [u8], used: usize, id: Identifier, content: &[u8]) 
     ensures answer { λ r. ⌜ answerOf r ≡ written packLimit (length (now (buf .entry))) used (ofIdentity (λ i. block i (now (content .entry))) (named id)) ⌝ }
     ensures buffer { λ _. ⌜ now (buf .exit) ≡ bufferAfter packLimit used (ofIdentity (λ i. block i (now (content .entry))) (named id)) (now (buf .entry)) ⌝ }
 {
-    if !identifier::is_admitted(id) {
+    if !held_identifier::is_admitted(id) {
         return Written::Inadmissible;
     }
     let n = id.bucketlen;
@@ -551,7 +551,7 @@ pub fn write_delete_of(buf: &mut [u8], used: usize, id: Identifier, deleteid: &[
     ensures buffer { λ _. ⌜ now (buf .exit) ≡ bufferAfter packLimit used
         (ofIdentity (λ i. deletion i (now (deleteid .entry))) (named id)) (now (buf .entry)) ⌝ }
 {
-    if !identifier::is_admitted(id) {
+    if !held_identifier::is_admitted(id) {
         return Written::Inadmissible;
     }
     if !identifier::is_ulid(deleteid) {
@@ -572,7 +572,7 @@ pub fn write_version_part(out: &mut [u8], id: Identifier, marker: bool) -> Writt
     ensures answer { λ r. ⌜ answerOf r ≡ partWritten (length (now (out .entry))) (versionPartOf marker (named id)) ⌝ }
     ensures buffer { λ _. ⌜ now (out .exit) ≡ partAfter (versionPartOf marker (named id)) (now (out .entry)) ⌝ }
 {
-    if !identifier::is_admitted(id) {
+    if !held_identifier::is_admitted(id) {
         return Written::Inadmissible;
     }
     let n = id.bucketlen;

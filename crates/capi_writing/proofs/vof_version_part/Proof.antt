@@ -2,7 +2,7 @@
 use mathlib.Core.Path.{ap, _∙_}
 use borrow.Author.Needs.{needs}
 use lib.ListN.{length}
-use Rattle.identifier.specs.Held.{named}
+use Rattle.held_identifier.specs.Held.{named}
 use Rattle.writer.specs.Writing.{partWritten, partAfter}
 use Rattle.capi_writing.specs.Write.{writtenWord, isSet}
 use Rattle.capi_writing.proofs.Bounds.{part-within}

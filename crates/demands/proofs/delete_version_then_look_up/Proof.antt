@@ -1,7 +1,7 @@
 -- `demands::delete_version_then_look_up` meets its contract: what the struct names is asked for as a `vd`.
 use borrow.Author.Needs.{needs}
 use Rattle.slices.specs.Bytes.{AllBytes}
-use Rattle.identifier.specs.Held.{named}
+use Rattle.held_identifier.specs.Held.{named}
 use Rattle.writer.specs.Writing.{deletion, ofIdentity}
 use Rattle.demands.proofs.Calls.{asks-deletion, deletion-inside, deletion-holds}
 use Rattle.demands.proofs.delete_version_then_look_up.Statement.{statement}

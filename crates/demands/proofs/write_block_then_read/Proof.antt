@@ -1,7 +1,7 @@
 -- `demands::write_block_then_read` meets its contract: what is asked for is a block, of the identifier that the struct names.
 use borrow.Author.Needs.{needs}
 use Rattle.slices.specs.Bytes.{AllBytes}
-use Rattle.identifier.specs.Held.{named}
+use Rattle.held_identifier.specs.Held.{named}
 use Rattle.writer.specs.Writing.{block, ofIdentity}
 use Rattle.demands.proofs.Calls.{count-inside}
 use Rattle.demands.proofs.ReadBacks.{read-back-holds}

@@ -5,7 +5,7 @@ use borrow.Author.Tests.{not-true, not-false}
 use borrow.Author.Needs.{needs}
 use lib.ListN.{length}
 use lib.Seq.{length-take-le}
-use Rattle.identifier.specs.Held.{named}
+use Rattle.held_identifier.specs.Held.{named}
 use Rattle.writer.specs.Writing.{deletion}
 use Rattle.writer.proofs.Calls.{Named, call-stores, call-unnamed, admitted-named, no-identifier, no-ulid}
 use Rattle.writer.proofs.write_delete_of.Statement.{statement}

@@ -5,7 +5,7 @@ use borrow.Author.Tests.{not-true, not-false}
 use borrow.Author.Needs.{needs}
 use lib.ListN.{length}
 use lib.Seq.{length-take-le}
-use Rattle.identifier.specs.Held.{named}
+use Rattle.held_identifier.specs.Held.{named}
 use Rattle.writer.specs.Writing.{partWritten, partAfter}
 use Rattle.writer.proofs.Calls.{Named, admitted-named}
 use Rattle.writer.proofs.Parts.{no-part}
