@@ -245,6 +245,17 @@ uint64_t vof_current(const uint8_t *pack, size_t pack_length, const uint8_t *buc
                      size_t bucket_length, const uint8_t *object, size_t object_length,
                      uint64_t *told, size_t told_length, uint8_t *ulid, size_t ulid_length);
 
+/* The same, with memory lent for the search: what `scratch` holds changes no answer, and what it then
+   holds is not told. With a number for each VOF_DELETION_LENGTH bytes of the pack the time grows as
+   the pack does, whatever its deletions; up to 8192 are of no use. */
+uint64_t vof_current_with(const uint8_t *pack, size_t pack_length, const uint8_t *bucket,
+                          size_t bucket_length, const uint8_t *object, size_t object_length,
+                          uint32_t *scratch, size_t scratch_length, uint64_t *told,
+                          size_t told_length, uint8_t *ulid, size_t ulid_length);
+
+/* No version delete takes fewer bytes. */
+enum { VOF_DELETION_LENGTH = 106 };
+
 /* Why a version record is current, or is not. Where several hold, the greatest is told. */
 enum {
     VOF_REASON_CURRENT,

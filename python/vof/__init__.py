@@ -212,6 +212,7 @@ class Found(NamedTuple):
 
 _BYTES, _SIZE, _NUMBER = ctypes.c_void_p, ctypes.c_size_t, ctypes.c_uint64
 _NUMBERS = ctypes.POINTER(ctypes.c_uint64)
+_HINTS = ctypes.POINTER(ctypes.c_uint32)
 _READ, _TOLD, _WRITE = [_BYTES, _SIZE], [_NUMBERS, _SIZE], [_BYTES, _SIZE, _SIZE]
 _FUNCTIONS = {
     "vof_version": [],
@@ -221,6 +222,7 @@ _FUNCTIONS = {
     "vof_record": _READ + [_SIZE] + _TOLD + [_BYTES, _SIZE],
     "vof_value": _READ + _TOLD,
     "vof_current": _READ * 3 + _TOLD + [_BYTES, _SIZE],
+    "vof_current_with": _READ * 3 + [_HINTS, _SIZE] + _TOLD + [_BYTES, _SIZE],
     "vof_explain": _READ * 3 + _TOLD,
     "vof_pipe_start": _TOLD,
     "vof_pipe_take": _TOLD + _READ + _TOLD,
@@ -422,7 +424,11 @@ def current(pack: Data, bucket: Text, object: Text) -> Optional[Version]:
     bucket, object = _text(bucket), _text(object)
     told, ulid = _numbers(4), ctypes.create_string_buffer(ULID_LENGTH)
     names = *_lent(bucket), *_lent(object)
-    answer = _library.vof_current(*_lent(pack), *names, told, 4, ulid, len(ulid))
+    # A place for each version delete there can be, where the search has no room for them itself.
+    most = len(_view(pack)) // 106
+    scratch = (ctypes.c_uint32 * (most if most > 8192 else 0))()
+    rest = *names, scratch, len(scratch), told, 4, ulid, len(ulid)
+    answer = _library.vof_current_with(*_lent(pack), *rest)
     _word(answer, _OF_LOOKUP)
     found, start, value_length, is_delete_marker = told
     if not found:

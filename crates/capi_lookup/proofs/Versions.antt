@@ -54,6 +54,10 @@ module _ (told ulid row text : List ℕ) where
 
 -- ---- the lookup
 
+-- and what is said of lent memory whose contents are free
+pub and-free : {A B C D : Type 0} → A × (B × C) → D → A × (B × (C × D))
+and-free h d = (h .0, (h .1 .0, (h .1 .1, d)))
+
 either-same : (b : Bool) (s : List ℕ) → cond b s s ≡ s
 either-same true s = refl
 either-same false s = refl

@@ -34,7 +34,42 @@ fn tell(told: &mut [u64], ulid: &mut [u8], row: [u64; 4], text: &[u8]) -> u64
 }
 
 // Whether there is one, its record's start, its value's length, the delete flag; and its ULID. The
-// word is a refusal's place. 19: fewer than four words, or fewer than 26 bytes for a ULID.
+// word is a refusal's place. 19: fewer than four words, or fewer than 26 bytes for a ULID. Memory for
+// hints is lent, of any length; what it then holds is free.
+#[no_mangle]
+pub extern "C" fn vof_current_with(
+    pack: &[u8],
+    bucket: &[u8],
+    object: &[u8],
+    scratch: &mut [u32],
+    told: &mut [u64],
+    ulid: &mut [u8],
+) -> u64
+    ensures answer { λ r. ⌜ r
+        ≡ currentAnswer (lookup packLimit (now (pack .entry)) (now (bucket .entry)) (now (object .entry)))
+        (length (now (told .entry))) (length (now (ulid .entry))) ⌝ }
+    ensures told { λ _. ⌜ now (told .exit)
+        ≡ currentTold (lookup packLimit (now (pack .entry)) (now (bucket .entry)) (now (object .entry)))
+        (now (told .entry)) (length (now (ulid .entry))) ⌝ }
+    ensures ulid { λ _. ⌜ now (ulid .exit)
+        ≡ currentUlid (lookup packLimit (now (pack .entry)) (now (bucket .entry)) (now (object .entry)))
+        (length (now (told .entry))) (now (ulid .entry)) ⌝ }
+    ensures free { λ _. ⌜ length (now (scratch .exit)) ≡ length (now (scratch .entry)) ⌝ }
+{
+    match lookup::lookup_with(pack, bucket, object, scratch) {
+        Found::Nothing => tell(told, ulid, [0; 4], b""),
+        Found::Current(v) => {
+            let row = [1, v.start as u64, v.len as u64, words::flag(v.deleted)];
+            tell(told, ulid, row, slices::part(pack, v.identifier.ulid))
+        }
+        Found::Inadmissible => words::answer(20, 0),
+        Found::TooLong => words::answer(1, 0),
+        Found::Fault(f, at) => words::answer(tlv::number(f), at),
+        Found::Unreadable(f, at) => words::answer(records::number(f), at),
+    }
+}
+
+// The same with no memory lent.
 #[no_mangle]
 pub extern "C" fn vof_current(
     pack: &[u8],
@@ -53,17 +88,8 @@ pub extern "C" fn vof_current(
         ≡ currentUlid (lookup packLimit (now (pack .entry)) (now (bucket .entry)) (now (object .entry)))
         (length (now (told .entry))) (now (ulid .entry)) ⌝ }
 {
-    match lookup::lookup(pack, bucket, object) {
-        Found::Nothing => tell(told, ulid, [0; 4], b""),
-        Found::Current(v) => {
-            let row = [1, v.start as u64, v.len as u64, words::flag(v.deleted)];
-            tell(told, ulid, row, slices::part(pack, v.identifier.ulid))
-        }
-        Found::Inadmissible => words::answer(20, 0),
-        Found::TooLong => words::answer(1, 0),
-        Found::Fault(f, at) => words::answer(tlv::number(f), at),
-        Found::Unreadable(f, at) => words::answer(records::number(f), at),
-    }
+    let mut none = [0u32; 0];
+    vof_current_with(pack, bucket, object, &mut none, told, ulid)
 }
 
 // Start, reason and place of each version record of the name, in order. The word is a refusal's place,

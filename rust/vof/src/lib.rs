@@ -453,7 +453,10 @@ pub fn current<'a>(
     object: &[u8],
 ) -> Result<Option<Version<'a>>, Refusal> {
     let (mut told, mut ulid) = ([0; 4], [0; ULID_LENGTH]);
-    let answer = raw::current(pack, bucket, object, &mut told, &mut ulid);
+    // A place for each version delete there can be, where the search has no room for them itself.
+    let most = pack.len() / 106;
+    let mut scratch = vec![0; if most > 8192 { most } else { 0 }];
+    let answer = raw::current_with(pack, bucket, object, &mut scratch, &mut told, &mut ulid);
     word(answer, of_lookup)?;
     let [found, start, value_length, is_delete_marker] = told;
     if found == 0 {
