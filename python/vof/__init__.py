@@ -52,6 +52,8 @@ Text = Union[str, Data]
 HEADER_LENGTH, ULID_LENGTH = 32, 26
 BUCKET_LIMIT, OBJECT_LIMIT, COMPOSITE_LIMIT, VERSION_PART_LIMIT = 63, 1024, 1115, 1129
 PACK_LIMIT, PIPE_LIMIT = 4294967295, 1 << 40
+# The fewest bytes of a version delete, and the hints that a lookup has itself.
+LEAST_DELETION_LENGTH, OWN_HINTS = 106, 8192
 
 
 class Refusal(Exception):
@@ -416,6 +418,21 @@ def value(value: Data) -> Value:
     return Value(told[9], *_parts(told[0:2], told[2], told[3:5], told[5:9]))
 
 
+def scratch_length(pack_length: int) -> int:
+    """How many hints a lookup in a pack of so many bytes is lent: one for each version delete that
+    it can have, or none where a lookup has enough itself."""
+    most = pack_length // LEAST_DELETION_LENGTH
+    return most if most > OWN_HINTS else 0
+
+
+def _scratch(pack_length: int) -> Any:
+    """Memory for these hints; none where it is not to be had, which costs time alone."""
+    try:
+        return (ctypes.c_uint32 * scratch_length(pack_length))()
+    except MemoryError:
+        return (ctypes.c_uint32 * 0)()
+
+
 def current(pack: Data, bucket: Text, object: Text) -> Optional[Version]:
     """The current Version of an object, or None. If it is a delete marker, the object counts as
     deleted, whatever older versions there are. Refusals 1 to 8 of the pack, then 9 to 12, 14 to
@@ -424,9 +441,7 @@ def current(pack: Data, bucket: Text, object: Text) -> Optional[Version]:
     bucket, object = _text(bucket), _text(object)
     told, ulid = _numbers(4), ctypes.create_string_buffer(ULID_LENGTH)
     names = *_lent(bucket), *_lent(object)
-    # A place for each version delete there can be, where the search has no room for them itself.
-    most = len(_view(pack)) // 106
-    scratch = (ctypes.c_uint32 * (most if most > 8192 else 0))()
+    scratch = _scratch(len(_view(pack)))
     rest = *names, scratch, len(scratch), told, 4, ulid, len(ulid)
     answer = _library.vof_current_with(*_lent(pack), *rest)
     _word(answer, _OF_LOOKUP)

@@ -41,8 +41,8 @@ extern "C" {
         object_length: usize,
         scratch: *mut u32,
         scratch_length: usize,
-        told: *mut u64,
-        told_length: usize,
+        out: *mut u64,
+        out_length: usize,
         ulid: *mut u8,
         ulid_length: usize,
     ) -> u64;
@@ -196,13 +196,13 @@ pub fn current(
     }
 }
 
-/// The same, with memory lent for the search, whatever it holds.
+/// The same, with memory lent for the search, whatever it holds. On a refusal it is as it was.
 pub fn current_with(
     pack: &[u8],
     bucket: &[u8],
     object: &[u8],
     scratch: &mut [u32],
-    told: &mut [u64],
+    out: &mut [u64],
     ulid: &mut [u8],
 ) -> u64 {
     unsafe {
@@ -215,8 +215,8 @@ pub fn current_with(
             object.len(),
             scratch.as_mut_ptr(),
             scratch.len(),
-            told.as_mut_ptr(),
-            told.len(),
+            out.as_mut_ptr(),
+            out.len(),
             ulid.as_mut_ptr(),
             ulid.len(),
         )

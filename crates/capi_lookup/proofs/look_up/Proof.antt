@@ -1,11 +1,11 @@
--- `capi_lookup::vof_current_with` meets its contract: each arm is how the lookup's answer is told.
+-- `capi_lookup::look_up` meets its contract: each arm is how the lookup's answer is told.
 use mathlib.Core.Path.{ap}
 use native.Mathlib.Omega.{arith}
 use borrow.Author.Needs.{needs}
 use Rattle.lookup.specs.Answers.{foundOf}
-use Rattle.capi_lookup.proofs.Versions.{and-free, answers-nothing, answers-found, answers-refused, answers-alone}
-use Rattle.capi_lookup.proofs.vof_current_with.Statement.{statement}
-use Rattle.capi_lookup.proofs.vof_current_with.Tie as tie
+use Rattle.capi_lookup.proofs.Versions.{and-scratch, answers-nothing, answers-found, answers-refused, answers-alone}
+use Rattle.capi_lookup.proofs.look_up.Statement.{statement}
+use Rattle.capi_lookup.proofs.look_up.Tie as tie
 
 lookup-with-requires : tie.Need-lookup-with-requires
 lookup-with-requires c κs = search needs
@@ -74,7 +74,7 @@ returns : tie.Need-returns
 returns c =
     let told = c .before .before .before .before .before .before .before .before in
     let looked = told .before .before .before .before .lookup-with in
-    and-free (answers-nothing _ _ _ _ _ (looked .result) (looked .ensures .0) (told .enum-told .given .1) _ _ _ (c .before .before .before .before .tell .ensures)) (looked .ensures .1 .1)
+    and-scratch (answers-nothing _ _ _ _ _ (looked .result) (looked .ensures .0) (told .enum-told .given .1) _ _ _ (c .before .before .before .before .tell .ensures)) (looked .ensures .1 .1)
 
 same-length-4 : tie.Need-same-length-4
 same-length-4 c = search needs
@@ -89,7 +89,7 @@ returns-2 : tie.Need-returns-2
 returns-2 c =
     let told = c .before .before .before .before .before .before .before .before .before .before in
     let looked = told .before .before .before .before .lookup-with in
-    and-free
+    and-scratch
     (answers-found _ _ _ _ _ (looked .result) (looked .ensures .0) _ (told .v .given .1) (looked .ensures .1 .0 .version _ (told .v .given .1)) _ _ _
     (rw (c .before .before .before .before .before .part .ensures .0, c .before .before .before .before .before .before .before .before .flag .ensures) at (c .before .before .before .before .tell2 .ensures)))
     (looked .ensures .1 .1)
@@ -100,7 +100,7 @@ same-length-7 c = search needs
 returns-3 : tie.Need-returns-3
 returns-3 c =
     let looked = c .before .before .before .before .before .lookup-with in
-    rw (c .answer .ensures) (and-free (answers-alone _ _ _ _ _ (looked .result) (looked .ensures .0) 20 (ap (foundOf _) (c .before .enum-told2 .given .1))) (looked .ensures .1 .1))
+    rw (c .answer .ensures) (and-scratch (answers-alone _ _ _ _ _ (looked .result) (looked .ensures .0) 20 (ap (foundOf _) (c .before .enum-told2 .given .1))) (looked .ensures .1 .1))
 
 same-length-8 : tie.Need-same-length-8
 same-length-8 c = search needs
@@ -109,7 +109,7 @@ returns-4 : tie.Need-returns-4
 returns-4 c =
     let looked = c .before .before .before .before .before .lookup-with in
     rw (c .answer2 .ensures)
-    (and-free (answers-refused _ _ _ _ _ (looked .result) (looked .ensures .0) 1 0 (ap (foundOf _) (c .before .enum-told3 .given .1)) (omega arith)) (looked .ensures .1 .1))
+    (and-scratch (answers-refused _ _ _ _ _ (looked .result) (looked .ensures .0) 1 0 (ap (foundOf _) (c .before .enum-told3 .given .1)) (omega arith)) (looked .ensures .1 .1))
 
 same-length-9 : tie.Need-same-length-9
 same-length-9 c = search needs
@@ -118,7 +118,7 @@ returns-5 : tie.Need-returns-5
 returns-5 c =
     let looked = c .before .before .before .before .before .before .before .lookup-with in
     rw (c .answer3 .ensures, c .before .number .ensures)
-    (and-free (answers-refused _ _ _ _ _ (looked .result) (looked .ensures .0) _ _ (ap (foundOf _) (c .before .before .before .f .given .1)) (omega (arith, c .before .number .ensures, c .before .number .ok))) (looked .ensures .1 .1))
+    (and-scratch (answers-refused _ _ _ _ _ (looked .result) (looked .ensures .0) _ _ (ap (foundOf _) (c .before .before .before .f .given .1)) (omega (arith, c .before .number .ensures, c .before .number .ok))) (looked .ensures .1 .1))
 
 same-length-10 : tie.Need-same-length-10
 same-length-10 c = search needs
@@ -127,10 +127,10 @@ returns-6 : tie.Need-returns-6
 returns-6 c =
     let looked = c .before .before .before .before .before .before .before .lookup-with in
     rw (c .answer4 .ensures, c .before .number2 .ensures)
-    (and-free (answers-refused _ _ _ _ _ (looked .result) (looked .ensures .0) _ _ (ap (foundOf _) (c .before .before .before .f2 .given .1)) (omega (arith, c .before .number2 .ensures, c .before .number2 .ok))) (looked .ensures .1 .1))
+    (and-scratch (answers-refused _ _ _ _ _ (looked .result) (looked .ensures .0) _ _ (ap (foundOf _) (c .before .before .before .f2 .given .1)) (omega (arith, c .before .number2 .ensures, c .before .number2 .ok))) (looked .ensures .1 .1))
 
-pub vof-current-with-spec : {M : Type 1} → statement M
-vof-current-with-spec =
+pub look-up-spec : {M : Type 1} → statement M
+look-up-spec =
     tie.close
     (tie.spec
     lookup-with-requires
