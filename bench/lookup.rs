@@ -40,8 +40,8 @@ extern "C" {
         object_len: usize,
         scratch: *mut u32,
         scratch_len: usize,
-        told: *mut u64,
-        told_len: usize,
+        out: *mut u64,
+        out_len: usize,
         ulid: *mut u8,
         ulid_len: usize,
     ) -> u64;
@@ -101,9 +101,12 @@ fn lent(pack: &[u8], bucket: &str, object: &str, scratch: &mut [u32]) -> Answer 
     read(answer, told)
 }
 
-/// As many hints as a pack of this length has deletions at most: the shortest takes 106 bytes.
+/// No version delete takes fewer bytes: VOF_LEAST_DELETION_LENGTH of include/vof.h.
+const LEAST_DELETION_LENGTH: usize = 106;
+
+/// As many hints as a pack of this length has deletions at most.
 fn scratch_for(pack: &[u8]) -> Vec<u32> {
-    vec![0; pack.len() / 106]
+    vec![0; pack.len() / LEAST_DELETION_LENGTH]
 }
 
 fn rust(pack: &[u8], bucket: &str, object: &str) -> Answer {
@@ -275,6 +278,14 @@ fn python(pack: &[u8], object: &str) -> Option<(String, f64)> {
     Some((ulid.to_string(), milliseconds.parse().unwrap()))
 }
 
+/// A row with more deletions than LOOKUP_MOST is left out, for a try that takes seconds.
+fn most_deletions() -> usize {
+    std::env::var("LOOKUP_MOST")
+        .ok()
+        .and_then(|most| most.parse().ok())
+        .unwrap_or(usize::MAX)
+}
+
 fn measure(what: &str, pack: Pack) {
     let name = object(0);
     let (mut p_answer, mut l_answer, mut r_answer) = (Ok(None), Ok(None), Ok(None));
@@ -334,15 +345,21 @@ fn main() {
         ("falling", Order::Falling),
         ("mixed", Order::Mixed),
     ];
-    for versions in [100, 1_000, 10_000, 100_000, 400_000] {
+    let most = most_deletions();
+    let counts = [100, 1_000, 10_000, 100_000, 400_000, 1_600_000];
+    for versions in counts.into_iter().filter(|&count| count <= most) {
         for (name, order) in orders {
             let what = format!("{versions}, all, {name}");
             measure(&what, Pack::all_deleted(versions, 1, order));
         }
     }
-    // No more versions than it takes to need as many turns: a version where the hints end.
-    for (name, order) in orders {
-        let what = format!("25, 200000 deletions, {name}");
-        measure(&what, Pack::all_deleted(200_000, 8_193, order));
+    // Prepared packs: no more versions than it takes to need as many turns, a version where the hints
+    // that a lookup has itself end.
+    for deletions in [20_000, 200_000].into_iter().filter(|&count| count <= most) {
+        for (name, order) in orders {
+            let pack = Pack::all_deleted(deletions, 8_193, order);
+            let versions = deletions.div_ceil(8_193);
+            measure(&format!("{versions}, {deletions} deletions, {name}"), pack);
+        }
     }
 }

@@ -341,8 +341,16 @@ impl Compare {
             |words: &mut [u64], ulid: &mut [u8]| raw::current(pack, bucket, object, words, ulid);
         self.lent(Function::Current, &inputs, &wanted, &rooms, call);
         // More than the search has of its own, so that it is used, and none of it a hint.
+        const LENT: [u32; vof::OWN_HINTS + 1] = [7; vof::OWN_HINTS + 1];
         let call = |words: &mut [u64], ulid: &mut [u8]| {
-            raw::current_with(pack, bucket, object, &mut [7; 8193], words, ulid)
+            let mut scratch = LENT;
+            let answer = raw::current_with(pack, bucket, object, &mut scratch, words, ulid);
+            // An answer that none gives tells of a refusal that changed it.
+            if answer == 0 || scratch == LENT {
+                answer
+            } else {
+                u64::MAX
+            }
         };
         self.lent(Function::CurrentWith, &inputs, &wanted, &rooms, call);
         let safe = vof::current(pack, bucket, object).map(|found| found.map(|it| it.value));

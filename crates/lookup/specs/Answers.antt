@@ -94,6 +94,10 @@ isRefusal (found v) = false
 isRefusal (refusedAt n at) = true
 isRefusal (alone n) = true
 
+-- document 01's case E, and a name that breaks the rules
+refusals-are : (isRefusal (refusedAt 2 46) ≡ true) × (isRefusal (alone 20) ≡ true)
+refusals-are = (refl, refl)
+
 -- what it holds at exit: after a refusal what it held, else anything, as long as it was
 pub record ScratchAfter (refusal : Bool) (old new : List ℕ) : Type 0 where
   pub long : length new ≡ length old
