@@ -59,16 +59,16 @@ pub and-scratch : {A B C D : Type 0} → A × (B × C) → D → A × (B × (C �
 and-scratch h d = (h .0, (h .1 .0, (h .1 .1, d)))
 
 -- with room for what is found, only a refusal of the lookup is answered with more than 0
-pub scratch-answered : (a : Answer) (words bytes r : ℕ) (old new : List ℕ) → 4 ≤ words → 26 ≤ bytes → r ≡ currentAnswer a words bytes
-    → ScratchAfter (isRefusal a) old new → ScratchAfter (not (eqb r 0)) old new
-scratch-answered nothing words bytes r old new w b e h =
+pub scratch-answered : (a : Answer) (words bytes r : ℕ) (old new : List ℕ) → r ≡ currentAnswer a words bytes
+    → ScratchAfter (isRefusal a) old new → 4 ≤ words → 26 ≤ bytes → ScratchAfter (not (eqb r 0)) old new
+scratch-answered nothing words bytes r old new e h w b =
     let zero : r ≡ 0 = rw (le-leb 4 words w) at e in
     rw zero (scratch-free old new (h .long))
-scratch-answered (found v) words bytes r old new w b e h =
+scratch-answered (found v) words bytes r old new e h w b =
     let zero : r ≡ 0 = rw (le-leb 4 words w, le-leb 26 bytes b) at e in
     rw zero (scratch-free old new (h .long))
-scratch-answered (refusedAt n at) words bytes r old new w b e h = record { long = h .long; kept = λ x. h .kept refl }
-scratch-answered (alone n) words bytes r old new w b e h = record { long = h .long; kept = λ x. h .kept refl }
+scratch-answered (refusedAt n at) words bytes r old new e h w b = record { long = h .long; kept = λ x. h .kept refl }
+scratch-answered (alone n) words bytes r old new e h w b = record { long = h .long; kept = λ x. h .kept refl }
 
 either-same : (b : Bool) (s : List ℕ) → cond b s s ≡ s
 either-same true s = refl
