@@ -30,6 +30,21 @@ extern "C" {
         ulid: *mut u8,
         ulid_len: usize,
     ) -> u64;
+
+    fn vof_current_with(
+        pack: *const u8,
+        pack_len: usize,
+        bucket: *const u8,
+        bucket_len: usize,
+        object: *const u8,
+        object_len: usize,
+        scratch: *mut u32,
+        scratch_len: usize,
+        out: *mut u64,
+        out_len: usize,
+        ulid: *mut u8,
+        ulid_len: usize,
+    ) -> u64;
 }
 
 /// The start of the current version's record, or the number of the refusal.
@@ -52,10 +67,46 @@ fn proved(pack: &[u8], bucket: &str, object: &str) -> Answer {
             ulid.len(),
         )
     };
+    read(answer, told)
+}
+
+fn read(answer: u64, told: [u64; 4]) -> Answer {
     match answer % 256 {
         0 => Ok((told[0] == 1).then_some(told[1] as usize)),
         number => Err(number as u32),
     }
+}
+
+/// The same with memory lent for hints.
+fn lent(pack: &[u8], bucket: &str, object: &str, scratch: &mut [u32]) -> Answer {
+    let (mut told, mut ulid) = ([0; 4], [0; 26]);
+    // SAFETY: the pointers and lengths are those of slices, and only `scratch`, `told` and `ulid`
+    // are written.
+    let answer = unsafe {
+        vof_current_with(
+            pack.as_ptr(),
+            pack.len(),
+            bucket.as_ptr(),
+            bucket.len(),
+            object.as_ptr(),
+            object.len(),
+            scratch.as_mut_ptr(),
+            scratch.len(),
+            told.as_mut_ptr(),
+            told.len(),
+            ulid.as_mut_ptr(),
+            ulid.len(),
+        )
+    };
+    read(answer, told)
+}
+
+/// No version delete takes fewer bytes: VOF_LEAST_DELETION_LENGTH of include/vof.h.
+const LEAST_DELETION_LENGTH: usize = 106;
+
+/// As many hints as a pack of this length has deletions at most.
+fn scratch_for(pack: &[u8]) -> Vec<u32> {
+    vec![0; pack.len() / LEAST_DELETION_LENGTH]
 }
 
 fn rust(pack: &[u8], bucket: &str, object: &str) -> Answer {
@@ -139,6 +190,8 @@ fn check_rules() {
         let want = Ok(current.map(|index| starts[index]));
         let (p, r) = (proved(&pack, BUCKET, &name), rust(&pack, BUCKET, &name));
         expect(want, p, r, &format!("rule {i}"));
+        let l = lent(&pack, BUCKET, &name, &mut scratch_for(&pack));
+        expect(want, l, r, &format!("rule {i}, memory lent"));
     }
     let (pack, _) = small(&[Entry::Version(1)]);
     let long = "x".repeat(1025);
@@ -159,6 +212,8 @@ fn alike(pack: &[u8], what: &str) -> bool {
     let name = object(0);
     let (p, r) = (proved(pack, BUCKET, &name), rust(pack, BUCKET, &name));
     expect(r, p, r, what);
+    let l = lent(pack, BUCKET, &name, &mut scratch_for(pack));
+    expect(r, l, r, what);
     r.is_err()
 }
 
@@ -223,17 +278,31 @@ fn python(pack: &[u8], object: &str) -> Option<(String, f64)> {
     Some((ulid.to_string(), milliseconds.parse().unwrap()))
 }
 
+/// A row with more deletions than LOOKUP_MOST is left out, for a try that takes seconds.
+fn most_deletions() -> usize {
+    std::env::var("LOOKUP_MOST")
+        .ok()
+        .and_then(|most| most.parse().ok())
+        .unwrap_or(usize::MAX)
+}
+
 fn measure(what: &str, pack: Pack) {
     let name = object(0);
-    let (mut p_answer, mut r_answer) = (Ok(None), Ok(None));
-    let (p, r) = timing::compare(
-        || p_answer = black_box(proved(black_box(&pack.bytes), BUCKET, &name)),
-        || r_answer = black_box(rust(black_box(&pack.bytes), BUCKET, &name)),
-    );
+    let (mut p_answer, mut l_answer, mut r_answer) = (Ok(None), Ok(None), Ok(None));
+    let mut scratch = scratch_for(&pack.bytes);
+    let best = timing::compare_all(&mut [
+        timing::calls(|| p_answer = black_box(proved(black_box(&pack.bytes), BUCKET, &name))),
+        timing::calls(|| {
+            l_answer = black_box(lent(black_box(&pack.bytes), BUCKET, &name, &mut scratch))
+        }),
+        timing::calls(|| r_answer = black_box(rust(black_box(&pack.bytes), BUCKET, &name))),
+    ]);
     let want = pack.current.as_ref().map(|(start, _)| *start);
     expect(Ok(want), p_answer, r_answer, what);
-    let (p, r, len) = (p / 1e6, r / 1e6, pack.bytes.len());
-    print!("{what:36} {len:9} {p:11.4} {r:9.4}");
+    expect(Ok(want), l_answer, r_answer, what);
+    let [p, l, r] = [best[0] / 1e6, best[1] / 1e6, best[2] / 1e6];
+    let len = pack.bytes.len();
+    print!("{what:36} {len:9} {p:11.4} {l:9.4} {r:9.4} {:9.2}", l / r);
     match python(&pack.bytes, &name) {
         Some((ulid, y)) => {
             let want = pack.current.map_or("nothing".to_string(), |(_, ulid)| ulid);
@@ -252,7 +321,7 @@ fn main() {
     println!("Current version, best round of each; a ratio under 1.00 means that proved is faster");
     println!("Python needs Debian's python3-msgpack and python3-xxhash");
     println!(
-        "{:36}     bytes   proved ms   Rust ms   Python ms   proved/Rust   proved/Python",
+        "{:36}     bytes   proved ms   lent ms   Rust ms lent/Rust   Python ms   proved/Rust   proved/Python",
         "versions, deleted"
     );
     for (versions, deleted) in [(1, 0), (1, 1)] {
@@ -276,15 +345,21 @@ fn main() {
         ("falling", Order::Falling),
         ("mixed", Order::Mixed),
     ];
-    for versions in [100, 1_000, 10_000, 100_000, 400_000] {
+    let most = most_deletions();
+    let counts = [100, 1_000, 10_000, 100_000, 400_000, 1_600_000];
+    for versions in counts.into_iter().filter(|&count| count <= most) {
         for (name, order) in orders {
             let what = format!("{versions}, all, {name}");
             measure(&what, Pack::all_deleted(versions, 1, order));
         }
     }
-    // No more versions than it takes to need as many turns: a version where the hints end.
-    for (name, order) in orders {
-        let what = format!("25, 200000 deletions, {name}");
-        measure(&what, Pack::all_deleted(200_000, 8_193, order));
+    // Prepared packs: no more versions than it takes to need as many turns, a version where the hints
+    // that a lookup has itself end.
+    for deletions in [20_000, 200_000].into_iter().filter(|&count| count <= most) {
+        for (name, order) in orders {
+            let pack = Pack::all_deleted(deletions, 8_193, order);
+            let versions = deletions.div_ceil(8_193);
+            measure(&format!("{versions}, {deletions} deletions, {name}"), pack);
+        }
     }
 }

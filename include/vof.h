@@ -245,6 +245,29 @@ uint64_t vof_current(const uint8_t *pack, size_t pack_length, const uint8_t *buc
                      size_t bucket_length, const uint8_t *object, size_t object_length,
                      uint64_t *told, size_t told_length, uint8_t *ulid, size_t ulid_length);
 
+enum {
+    /* No version delete takes fewer bytes. */
+    VOF_LEAST_DELETION_LENGTH = 106,
+    /* So many hints a lookup has itself: to lend no more is of no use. */
+    VOF_OWN_HINTS = 8192
+};
+
+/* How many numbers to lend to vof_current_with for a pack of so many bytes: one for each version delete
+   that it can have, or none where a lookup has enough itself. */
+static inline size_t vof_scratch_length(size_t pack_length) {
+    size_t most = pack_length / VOF_LEAST_DELETION_LENGTH;
+    return most > VOF_OWN_HINTS ? most : 0;
+}
+
+/* The same, with memory lent for the search, of any length. What `scratch` holds changes no answer. On a
+   refusal it is as it was; else what it then holds is not told.
+   With vof_scratch_length numbers the time grows with the length n of the pack as n log n, whatever
+   the pack holds; with fewer it can grow as n squared. So lend them where packs come from strangers. */
+uint64_t vof_current_with(const uint8_t *pack, size_t pack_length, const uint8_t *bucket,
+                          size_t bucket_length, const uint8_t *object, size_t object_length,
+                          uint32_t *scratch, size_t scratch_length, uint64_t *out,
+                          size_t out_length, uint8_t *ulid, size_t ulid_length);
+
 /* Why a version record is current, or is not. Where several hold, the greatest is told. */
 enum {
     VOF_REASON_CURRENT,

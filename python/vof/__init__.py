@@ -52,6 +52,8 @@ Text = Union[str, Data]
 HEADER_LENGTH, ULID_LENGTH = 32, 26
 BUCKET_LIMIT, OBJECT_LIMIT, COMPOSITE_LIMIT, VERSION_PART_LIMIT = 63, 1024, 1115, 1129
 PACK_LIMIT, PIPE_LIMIT = 4294967295, 1 << 40
+# The fewest bytes of a version delete, and the hints that a lookup has itself.
+LEAST_DELETION_LENGTH, OWN_HINTS = 106, 8192
 
 
 class Refusal(Exception):
@@ -212,6 +214,7 @@ class Found(NamedTuple):
 
 _BYTES, _SIZE, _NUMBER = ctypes.c_void_p, ctypes.c_size_t, ctypes.c_uint64
 _NUMBERS = ctypes.POINTER(ctypes.c_uint64)
+_HINTS = ctypes.POINTER(ctypes.c_uint32)
 _READ, _TOLD, _WRITE = [_BYTES, _SIZE], [_NUMBERS, _SIZE], [_BYTES, _SIZE, _SIZE]
 _FUNCTIONS = {
     "vof_version": [],
@@ -221,6 +224,7 @@ _FUNCTIONS = {
     "vof_record": _READ + [_SIZE] + _TOLD + [_BYTES, _SIZE],
     "vof_value": _READ + _TOLD,
     "vof_current": _READ * 3 + _TOLD + [_BYTES, _SIZE],
+    "vof_current_with": _READ * 3 + [_HINTS, _SIZE] + _TOLD + [_BYTES, _SIZE],
     "vof_explain": _READ * 3 + _TOLD,
     "vof_pipe_start": _TOLD,
     "vof_pipe_take": _TOLD + _READ + _TOLD,
@@ -414,6 +418,21 @@ def value(value: Data) -> Value:
     return Value(told[9], *_parts(told[0:2], told[2], told[3:5], told[5:9]))
 
 
+def scratch_length(pack_length: int) -> int:
+    """How many hints a lookup in a pack of so many bytes is lent: one for each version delete that
+    it can have, or none where a lookup has enough itself."""
+    most = pack_length // LEAST_DELETION_LENGTH
+    return most if most > OWN_HINTS else 0
+
+
+def _scratch(pack_length: int) -> Any:
+    """Memory for these hints; none where it is not to be had, which costs time alone."""
+    try:
+        return (ctypes.c_uint32 * scratch_length(pack_length))()
+    except MemoryError:
+        return (ctypes.c_uint32 * 0)()
+
+
 def current(pack: Data, bucket: Text, object: Text) -> Optional[Version]:
     """The current Version of an object, or None. If it is a delete marker, the object counts as
     deleted, whatever older versions there are. Refusals 1 to 8 of the pack, then 9 to 12, 14 to
@@ -422,7 +441,9 @@ def current(pack: Data, bucket: Text, object: Text) -> Optional[Version]:
     bucket, object = _text(bucket), _text(object)
     told, ulid = _numbers(4), ctypes.create_string_buffer(ULID_LENGTH)
     names = *_lent(bucket), *_lent(object)
-    answer = _library.vof_current(*_lent(pack), *names, told, 4, ulid, len(ulid))
+    scratch = _scratch(len(_view(pack)))
+    rest = *names, scratch, len(scratch), told, 4, ulid, len(ulid)
+    answer = _library.vof_current_with(*_lent(pack), *rest)
     _word(answer, _OF_LOOKUP)
     found, start, value_length, is_delete_marker = told
     if not found:

@@ -73,6 +73,7 @@ pub enum Function {
     Value,
     Record,
     Current,
+    CurrentWith,
     Explain,
     PipeStart,
     PipeTake,
@@ -88,7 +89,7 @@ pub enum Function {
 }
 
 /// The numbers that each function can answer, 0 where it does not refuse.
-const NUMBERS: [(Function, &[usize]); 17] = [
+const NUMBERS: [(Function, &[usize]); 18] = [
     (Function::Scan, &[0, 1, 2, 3, 4, 5, 6, 7, 8, 19]),
     (Function::FindHash, &[0, 20]),
     (Function::Value, &[0, 9, 10, 11, 12, 19, 22]),
@@ -100,6 +101,12 @@ const NUMBERS: [(Function, &[usize]); 17] = [
     ),
     (
         Function::Current,
+        &[
+            0, 1, 2, 3, 4, 5, 6, 7, 8, 9, 10, 11, 12, 14, 15, 16, 17, 18, 19, 20, 22,
+        ],
+    ),
+    (
+        Function::CurrentWith,
         &[
             0, 1, 2, 3, 4, 5, 6, 7, 8, 9, 10, 11, 12, 14, 15, 16, 17, 18, 19, 20, 22,
         ],
@@ -333,6 +340,19 @@ impl Compare {
         let call =
             |words: &mut [u64], ulid: &mut [u8]| raw::current(pack, bucket, object, words, ulid);
         self.lent(Function::Current, &inputs, &wanted, &rooms, call);
+        // More than the search has of its own, so that it is used, and none of it a hint.
+        const LENT: [u32; vof::OWN_HINTS + 1] = [7; vof::OWN_HINTS + 1];
+        let call = |words: &mut [u64], ulid: &mut [u8]| {
+            let mut scratch = LENT;
+            let answer = raw::current_with(pack, bucket, object, &mut scratch, words, ulid);
+            // An answer that none gives tells of a refusal that changed it.
+            if answer == 0 || scratch == LENT {
+                answer
+            } else {
+                u64::MAX
+            }
+        };
+        self.lent(Function::CurrentWith, &inputs, &wanted, &rooms, call);
         let safe = vof::current(pack, bucket, object).map(|found| found.map(|it| it.value));
         let same = safe == plain.map(|found| found.map(|it| it.value));
         self.hold("the safe current version", &inputs, same);

@@ -1,12 +1,12 @@
 -- The answer of `vof_current`, and the lent words and bytes at exit, from what the lookup found: words and ULID go out together or not at all, and what is found has a ULID of 26 bytes.
 use Prim.Native.Nat.{ℕ, _+_, _%_, _^_, _≤_, _<_}
-use mathlib.Core.Bool.{Bool, true, false, cond, _&&_, and-true}
+use mathlib.Core.Bool.{Bool, true, false, cond, not, _&&_, and-true}
 use mathlib.Core.List.{List, [], _∷_}
 use mathlib.Core.Path.{_≡_, refl, sym, ap, _∙_}
 use native.Mathlib.Nat.{zero-add}
 use native.Mathlib.Omega.{arith}
 use borrow.Author.Tests.{le-leb, lt-leb}
-use lib.Dec.{leb}
+use lib.Dec.{eqb, leb}
 use lib.ListN.{length, drop, length-drop}
 use lib.Seq.{length-take-le}
 use Rattle.slices.specs.Overwriting.{overwritten, writtenBytes, written-within, none-overwritten}
@@ -14,12 +14,12 @@ use Rattle.slices.specs.Places.{partAt}
 use Rattle.refusals.specs.Limit.{packLimit}
 use Rattle.pack.specs.Acceptance.{accepted-reading}
 use Rattle.identifier.specs.Ulid.{ulid-length}
-use Rattle.current_version.specs.Current.{Version, nothing, found, refusedAt, alone, lookup}
+use Rattle.current_version.specs.Current.{Version, Answer, nothing, found, refusedAt, alone, lookup}
 use Rattle.current_version.specs.Exactly.{current-member, lookup-exactly}
 use Rattle.lookup_records.specs.Answers.{valueIn}
 use Rattle.lookup_records.specs.Walk.{placedFrom}
 use Rattle.lookup.specs.Search.{walk-ulids}
-use Rattle.lookup.specs.Answers.{versionIn, foundOf, VersionInside}
+use Rattle.lookup.specs.Answers.{versionIn, foundOf, VersionInside, isRefusal, ScratchAfter, scratch-free}
 use Rattle.lookup.specs.declared.Version as declared-version
 use Rattle.lookup.specs.declared.Found.{Found}
 use Rattle.lookup.specs.declared.Found.the-variants.{Nothing, Current}
@@ -53,6 +53,22 @@ module _ (told ulid row text : List ℕ) where
         rw (written-within told 0 row (omega arith), le-leb 4 (length told) h, e, here) (refl, (refl, refl))
 
 -- ---- the lookup
+
+-- and what is said of memory lent for the search
+pub and-scratch : {A B C D : Type 0} → A × (B × C) → D → A × (B × (C × D))
+and-scratch h d = (h .0, (h .1 .0, (h .1 .1, d)))
+
+-- with room for what is found, only a refusal of the lookup is answered with more than 0
+pub scratch-answered : (a : Answer) (words bytes r : ℕ) (old new : List ℕ) → r ≡ currentAnswer a words bytes
+    → ScratchAfter (isRefusal a) old new → 4 ≤ words → 26 ≤ bytes → ScratchAfter (not (eqb r 0)) old new
+scratch-answered nothing words bytes r old new e h w b =
+    let zero : r ≡ 0 = rw (le-leb 4 words w) at e in
+    rw zero (scratch-free old new (h .long))
+scratch-answered (found v) words bytes r old new e h w b =
+    let zero : r ≡ 0 = rw (le-leb 4 words w, le-leb 26 bytes b) at e in
+    rw zero (scratch-free old new (h .long))
+scratch-answered (refusedAt n at) words bytes r old new e h w b = record { long = h .long; kept = λ x. h .kept refl }
+scratch-answered (alone n) words bytes r old new e h w b = record { long = h .long; kept = λ x. h .kept refl }
 
 either-same : (b : Bool) (s : List ℕ) → cond b s s ≡ s
 either-same true s = refl

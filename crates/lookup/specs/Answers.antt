@@ -1,9 +1,10 @@
 -- What the answers of the code say: document 01's numbers, and the contents at the places told.
 use Prim.Native.Nat.{ℕ, _+_, _≤_}
-use mathlib.Core.Bool.{Bool, true, false, not, _&&_}
-use mathlib.Core.List.{List}
+use mathlib.Core.Bool.{Bool, true, false, not, _&&_, true≢false}
+use mathlib.Core.List.{List, [], _∷_}
 use mathlib.Core.Option.{Option, none, some}
-use mathlib.Core.Path.{_≡_}
+use mathlib.Core.Path.{_≡_, refl, sym}
+use native.Mathlib.Omega.{arith}
 use lib.ListN.{length}
 use Rattle.slices.specs.declared.Place.{Place}
 use Rattle.refusals.specs.Limit.{packLimit}
@@ -84,6 +85,39 @@ pub record CandidateInside (s : List ℕ) (c : Candidate) : Type 0 where
 
 pub record FoundInside (s : List ℕ) (r : Found) : Type 0 where
   pub version : (v : declared-version.Version) → r ≡ found-answer.Current v → VersionInside s v
+
+-- ---- memory lent for the search
+
+abbrev pub isRefusal : Answer → Bool
+isRefusal nothing = false
+isRefusal (found v) = false
+isRefusal (refusedAt n at) = true
+isRefusal (alone n) = true
+
+-- document 01's case E, and a name that breaks the rules
+refusals-are : (isRefusal (refusedAt 2 46) ≡ true) × (isRefusal (alone 20) ≡ true)
+refusals-are = (refl, refl)
+
+-- what it holds at exit: after a refusal what it held, else anything, as long as it was
+pub record ScratchAfter (refusal : Bool) (old new : List ℕ) : Type 0 where
+  pub long : length new ≡ length old
+  pub kept : refusal ≡ true → new ≡ old
+
+-- a refusal that changes it is none of these, nor is one of another length
+scratch-changed : ScratchAfter true (1 ∷ 2 ∷ []) (1 ∷ 3 ∷ []) → ⊥
+scratch-changed h = let e : _≡_ {A = List ℕ} (1 ∷ 3 ∷ []) (1 ∷ 2 ∷ []) = h .kept refl in let z : _≡_ {A = ℕ} 3 2 = cc in omega arith
+
+scratch-shorter : ScratchAfter false (1 ∷ 2 ∷ []) (1 ∷ []) → ⊥
+scratch-shorter h = omega (arith, h .long)
+
+pub scratch-kept : (refusal : Bool) (old : List ℕ) → ScratchAfter refusal old old
+scratch-kept refusal old = record { long = refl; kept = λ e. refl }
+
+pub scratch-free : (old new : List ℕ) → length new ≡ length old → ScratchAfter false old new
+scratch-free old new long = record { long = long; kept = λ e. absurd (true≢false (sym e)) }
+
+pub scratch-as : (a b : Answer) (old new : List ℕ) → a ≡ b → ScratchAfter (isRefusal a) old new → ScratchAfter (isRefusal b) old new
+scratch-as a b old new e h = rw (← e) h
 
 -- ---- all records of a checked pack
 

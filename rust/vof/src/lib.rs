@@ -48,6 +48,10 @@ pub const VERSION_PART_LIMIT: usize = 1129;
 pub const PACK_LIMIT: usize = 4294967295;
 /// The longest pack that comes in parts.
 pub const PIPE_LIMIT: u64 = 1099511627776;
+/// The fewest bytes of a version delete.
+pub const LEAST_DELETION_LENGTH: usize = 106;
+/// The hints that a lookup has itself: to lend it no more is of no use.
+pub const OWN_HINTS: usize = 8192;
 
 /// Why there is no result.
 #[derive(Clone, Copy, Debug, PartialEq, Eq)]
@@ -443,6 +447,24 @@ pub fn value(value: &[u8]) -> Result<Value<'_>, Refusal> {
     })
 }
 
+/// How many hints a lookup in a pack of so many bytes is lent: one for each version delete that it can
+/// have, or none where a lookup has enough itself.
+pub fn scratch_length(pack_length: usize) -> usize {
+    match pack_length / LEAST_DELETION_LENGTH {
+        most if most > OWN_HINTS => most,
+        _ => 0,
+    }
+}
+
+/// Memory for these hints; none where it is not to be had, which costs time alone.
+fn scratch(pack_length: usize) -> Vec<u32> {
+    let (length, mut hints) = (scratch_length(pack_length), Vec::new());
+    if hints.try_reserve_exact(length).is_ok() {
+        hints.resize(length, 0);
+    }
+    hints
+}
+
 /// The current version of an object, `None` where the pack has none.
 ///
 /// Refused with 1 to 12, 14 to 18 or 22 and a place, or with 20 where the name breaks the rules. A
@@ -453,7 +475,8 @@ pub fn current<'a>(
     object: &[u8],
 ) -> Result<Option<Version<'a>>, Refusal> {
     let (mut told, mut ulid) = ([0; 4], [0; ULID_LENGTH]);
-    let answer = raw::current(pack, bucket, object, &mut told, &mut ulid);
+    let mut scratch = scratch(pack.len());
+    let answer = raw::current_with(pack, bucket, object, &mut scratch, &mut told, &mut ulid);
     word(answer, of_lookup)?;
     let [found, start, value_length, is_delete_marker] = told;
     if found == 0 {

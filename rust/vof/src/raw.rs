@@ -32,6 +32,20 @@ extern "C" {
         ulid: *mut u8,
         ulid_length: usize,
     ) -> u64;
+    fn vof_current_with(
+        pack: *const u8,
+        length: usize,
+        bucket: *const u8,
+        bucket_length: usize,
+        object: *const u8,
+        object_length: usize,
+        scratch: *mut u32,
+        scratch_length: usize,
+        out: *mut u64,
+        out_length: usize,
+        ulid: *mut u8,
+        ulid_length: usize,
+    ) -> u64;
     fn vof_explain(
         pack: *const u8,
         length: usize,
@@ -176,6 +190,33 @@ pub fn current(
             object.len(),
             told.as_mut_ptr(),
             told.len(),
+            ulid.as_mut_ptr(),
+            ulid.len(),
+        )
+    }
+}
+
+/// The same, with memory lent for the search, whatever it holds. On a refusal it is as it was.
+pub fn current_with(
+    pack: &[u8],
+    bucket: &[u8],
+    object: &[u8],
+    scratch: &mut [u32],
+    out: &mut [u64],
+    ulid: &mut [u8],
+) -> u64 {
+    unsafe {
+        vof_current_with(
+            pack.as_ptr(),
+            pack.len(),
+            bucket.as_ptr(),
+            bucket.len(),
+            object.as_ptr(),
+            object.len(),
+            scratch.as_mut_ptr(),
+            scratch.len(),
+            out.as_mut_ptr(),
+            out.len(),
             ulid.as_mut_ptr(),
             ulid.len(),
         )
