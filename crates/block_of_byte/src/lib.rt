@@ -119,6 +119,7 @@ fn block_in(part: &[u8], e: Entry, blocks: usize, stride: u64, offset: u64) -> B
 {
     let lengths = e.lengths;
     let deltas = e.deltas;
+    let last = blocks - 1;
     let mut start = e.stored.start;
     let mut stored = e.stored.len;
     let mut source = e.source.len;
@@ -127,7 +128,6 @@ fn block_in(part: &[u8], e: Entry, blocks: usize, stride: u64, offset: u64) -> B
     let mut delta = deltas.first;
     let mut k = 0;
     let mut found = BlockFound::None;
-    let last = blocks - 1;
     while k < last {
         let Number::Read(len) = value::natural_at(slices::from(part, at)) else {
             return BlockFound::None;

@@ -1,4 +1,4 @@
--- `pack_list::block_in` meets its contract: what all blocks tell is what those from the k-th on tell, after the block found before them.
+-- `block_of_byte::block_in` meets its contract: what all blocks tell is what those from the k-th on tell, after the block found before them.
 use borrow.Author.Needs.{needs}
 use Prim.Native.Nat.{ℕ, _-_}
 use mathlib.Core.Option.{Option, some}
@@ -7,10 +7,10 @@ use native.Mathlib.Omega.{arith}
 use lib.ListN.{drop}
 use Rattle.endian.specs.Places.{numberOf}
 use Rattle.value.specs.Fields.{readNatural}
-use Rattle.pack_list.specs.Answers.{lengthOf, movedBy, atMost}
-use Rattle.pack_list.proofs.Finding.{deltaRead, WalkedTo, length-there, length-fits, source-fits, stops, goes-on, ends, walk-starts, block-is}
-use Rattle.pack_list.proofs.block_in.Statement.{statement}
-use Rattle.pack_list.proofs.block_in.Tie as tie
+use Rattle.block_of_byte.specs.Answers.{lengthOf, movedBy, atMost}
+use Rattle.block_of_byte.proofs.Finding.{deltaRead, WalkedTo, length-there, length-fits, source-fits, stops, goes-on, ends, walk-starts, block-is}
+use Rattle.block_of_byte.proofs.block_in.Statement.{statement}
+use Rattle.block_of_byte.proofs.block_in.Tie as tie
 
 abbrev Inv-loop : tie.InvT-loop
 Inv-loop part stride offset lengths deltas start₀ stored₀ source₀ behind₀ at₀ delta₀ k₀ found₀ start stored source behind at delta k found =

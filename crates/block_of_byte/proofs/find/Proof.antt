@@ -1,12 +1,12 @@
--- `pack_list::find` meets its contract: the list is read for the byte, and the first entry that holds it tells the block.
+-- `block_of_byte::find` meets its contract: the list is read for the byte, and the first entry that holds it tells the block.
 use borrow.Author.Needs.{needs}
 use mathlib.Core.Path.{_≡_, ap, _∙_}
-use Rattle.pack_list.specs.declared.Holder.{Holder}
-use Rattle.pack_list.specs.declared.ListRead.the-variants as list-answer
-use Rattle.pack_list.proofs.Finding.{nowhere-found, refused-found}
-use Rattle.pack_list.proofs.Listing.{find-list, found-stands, find-refused}
-use Rattle.pack_list.proofs.find.Statement.{statement}
-use Rattle.pack_list.proofs.find.Tie as tie
+use Rattle.block_of_byte.specs.declared.Holder.{Holder}
+use Rattle.block_of_byte.specs.declared.ListRead.the-variants as list-answer
+use Rattle.block_of_byte.proofs.Finding.{nowhere-found, refused-found}
+use Rattle.block_of_byte.proofs.Listing.{find-list, found-stands, find-refused}
+use Rattle.block_of_byte.proofs.find.Statement.{statement}
+use Rattle.block_of_byte.proofs.find.Tie as tie
 
 read-for-requires : tie.Need-read-for-requires
 read-for-requires c κs = search needs

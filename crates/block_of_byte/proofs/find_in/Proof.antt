@@ -1,4 +1,4 @@
--- `pack_list::find_in` meets its contract: the entry that holds the byte is read again, and its blocks are walked.
+-- `block_of_byte::find_in` meets its contract: the entry that holds the byte is read again, and its blocks are walked.
 use borrow.Author.Needs.{needs}
 use Prim.Native.Nat.{ℕ}
 use mathlib.Core.List.{List}
@@ -7,13 +7,13 @@ use mathlib.Core.Path.{_≡_, refl, sym, ap, _∙_}
 use borrow.Author.Tests.{not-true, not-false}
 use lib.ListN.{drop}
 use Rattle.slices.specs.Logic.{absurd-numbers}
-use Rattle.pack_list.specs.Blocks.{isCounted}
-use Rattle.pack_list.specs.declared.EntryRead.the-variants as entry-answer
-use Rattle.pack_list.specs.Answers.{entryOf, toldIn, entryTold, EntryHere, blockOf}
-use Rattle.pack_list.proofs.Entries.{told-entry, told-none}
-use Rattle.pack_list.proofs.Finding.{counted-is, not-counted, offset-in, block-here, no-block-here, entry-found, block-found}
-use Rattle.pack_list.proofs.find_in.Statement.{statement}
-use Rattle.pack_list.proofs.find_in.Tie as tie
+use Rattle.block_of_byte.specs.Blocks.{isCounted}
+use Rattle.block_of_byte.specs.declared.EntryRead.the-variants as entry-answer
+use Rattle.block_of_byte.specs.Answers.{entryOf, toldIn, entryTold, EntryHere, blockOf}
+use Rattle.block_of_byte.proofs.Entries.{told-entry, told-none}
+use Rattle.block_of_byte.proofs.Finding.{counted-is, not-counted, offset-in, block-here, no-block-here, entry-found, block-found}
+use Rattle.block_of_byte.proofs.find_in.Statement.{statement}
+use Rattle.block_of_byte.proofs.find_in.Tie as tie
 
 entry-at-requires : tie.Need-entry-at-requires
 entry-at-requires c κs = search needs

@@ -221,10 +221,10 @@ returns-7 c =
     let told = entry-told (bytes a) (map-at a) _ (a .args .places .repeated) _ _ (pack p) (source o) (stored n) (lengths l) (deltas k) (a .pre .1 .repeated) _ (a .pre .1 .size) in
     let place = sym (ap placeOf (p .before .pack .given .1)) ∙ place-read (p .before .before .before) in
     let lengths-placed =
-    numbers-placed lengthsKey (bytes a) (a .args .at) _ (a .pre .1 .lengths) _ (l .before .before .before .numbers-under .ensures .1 .1) _
+    numbers-placed lengthsKey (bytes a) (a .args .at) (a .args .places .lengths) (a .pre .1 .lengths) _ (l .before .before .before .numbers-under .ensures .1 .1) _
     (l .before .lengths .given .1) in
     let deltas-placed =
-    numbers-placed deltasKey (bytes a) (a .args .at) _ (a .pre .1 .deltas) _ (k .before .before .before .numbers-under2 .ensures .1 .1) _
+    numbers-placed deltasKey (bytes a) (a .args .at) (a .args .places .deltas) (a .pre .1 .deltas) _ (k .before .before .before .numbers-under2 .ensures .1 .1) _
     (k .before .deltas .given .1) in
     (c .tested .ensures .0 ∙ told, entry-inside _ _ _ _ (c .tested .ensures .1) place lengths-placed deltas-placed)
 
