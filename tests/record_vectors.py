@@ -1174,7 +1174,7 @@ def blocks_found_near_64_bits():
         ("two", [-half, -(half - 1)]),
         ("two in reverse", [-(half - 1), -half]),
     ]:
-        long = entry((0, 0), (0, 0), [0] * (len(lost) - 1), lost)
+        long = entry((0, 0), (0, 1), [0] * (len(lost) - 1), lost)
         for said, deltas, wanted in [
             ("taken away", [-half], in_block(1, 1, 4, 3)),
             ("taken away twice", [-half, 6 - half], in_block(1, 1, 4, 3)),

@@ -59,9 +59,9 @@ strides =
     ∷ lengths [] (entry (range 0 0) (range 0 1) [] (minus greatest ∷ [])) greatest (some (0 ∷ []))
     ∷ []
 
-pub strides-hold : map (λ (r : Lengths). lengths (r .front) (r .last) (stride (r .front ++ (r .last ∷ []))) (sources (r .stride) (r .last))) strides ≡ strides
+pub lengths-hold : map (λ (r : Lengths). lengths (r .front) (r .last) (stride (r .front ++ (r .last ∷ []))) (sources (r .stride) (r .last))) strides ≡ strides
 unfolding strides storedFrom storedLengths finding.blocks deltasOf gains losses isCounted ceiling strideFor stride sourcesFrom sources sum
-strides-hold = refl
+lengths-hold = refl
 
 -- ---- the block that holds a byte
 

@@ -22,7 +22,7 @@ use Rattle.pack_list.specs.declared.Entry as placed
 use Rattle.pack_list.specs.declared.PackList as listed
 use Rattle.pack_list.specs.declared.NextEntry.{NextEntry}
 use Rattle.pack_list.specs.declared.NextEntry.the-variants as next-answer
-use Rattle.pack_list.specs.Answers.{itemsIn, WholeItems, entryOf, EntryStands, entryItems, entriesIn, ListInside, nextEntry, nextOf, NextInside}
+use Rattle.pack_list.specs.Answers.{itemsIn, WholeItems, entryOf, EntryHere, EntryStands, entryItems, entriesIn, ListInside, nextEntry, nextOf, NextInside}
 
 -- ---- items
 
@@ -125,6 +125,16 @@ entry-is s e x h = go (eachOf readNatural (itemsIn s (e .lengths))) refl (eachOf
           source = (cc);
           stored = (cc);
         }
+
+-- ---- an item's place settles where what an entry tells stands
+
+pub places-settled : (s : List ℕ) (at : ℕ) (e f : placed.Entry) → EntryHere s at e → EntryHere s at f
+    → (e .pack ≡ f .pack) × ((e .lengths ≡ f .lengths) × (e .deltas ≡ f .deltas))
+places-settled s at e f h k =
+    let packs : some (e .pack) ≡ some (f .pack) = h .pack ∙ sym (k .pack) in
+    let lengths : some (e .lengths) ≡ some (f .lengths) = h .lengths ∙ sym (k .lengths) in
+    let deltas : some (e .deltas) ≡ some (f .deltas) = h .deltas ∙ sym (k .deltas) in
+    (cc, (cc, cc))
 
 -- ---- the entries of a list
 
