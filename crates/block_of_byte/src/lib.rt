@@ -145,7 +145,7 @@ fn block_in(part: &[u8], e: Entry, blocks: usize, stride: u64, offset: u64) -> B
         stored -= len;
         source -= n;
         at = pack_list::after(part, at);
-        delta = delta_pack_list::after(part, deltas, k, delta);
+        delta = delta_after(part, deltas, k, delta);
         k += 1;
     }
     let block = Block {

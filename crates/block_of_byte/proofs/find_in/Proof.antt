@@ -29,8 +29,7 @@ returns-2 : tie.Need-returns-2
 returns-2 c =
     let b = c .before .before .before in
     let o = b .before in
-    let a = o .before .before .before .before in
-    (
+    let a = o .before .before .before .before in (
       block-here _ _ _ (a .pre) (not-false _ (o .if1 .left)) _ _ (b .block-in .ensures) _ (ap blockOf (c .before .b .given .1)),
       block-found _ _ _ _ (held-stands _ _ _ (a .pre)),
     )
@@ -39,8 +38,7 @@ returns-3 : tie.Need-returns-3
 returns-3 c =
     let b = c .before .before in
     let o = b .before in
-    let a = o .before .before .before .before in
-    (
+    let a = o .before .before .before .before in (
       no-block-here _ _ _ (a .pre) (not-false _ (o .if1 .left)) _ _ (b .block-in .ensures) (ap blockOf (c .enum-told .given .1)),
       entry-found _ _ _ (held-stands _ _ _ (a .pre)),
     )

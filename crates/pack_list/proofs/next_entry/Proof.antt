@@ -60,9 +60,11 @@ returns c =
     let k = d .before in
     let a = k .before .before .before .before .before .before in
     let told = sym (ap (toldIn (a .args .part .now)) (c .before .e .given .1)) ∙ d .entry-at .ensures .0 in
-    let e = told-entry (a .args .part .now) (item-at a) _ _ told in
-    (rw (item-whole k, e), next-inside _ _ _ _ _ (d .entry-at .ensures .1 .here _ _ (c .before .e .given .1))
-    (λ x q. tests-tell (a .args .part .now) (item-at a) _ _ x told q .blocks))
+    let e = told-entry (a .args .part .now) (item-at a) _ _ told in (
+      rw (item-whole k, e),
+      next-inside _ _ _ _ _ (d .entry-at .ensures .1 .here _ _ (c .before .e .given .1))
+          (λ x q. tests-tell (a .args .part .now) (item-at a) _ _ x told q .blocks),
+    )
 
 returns-2 : tie.Need-returns-2
 unfolding nextEntry

@@ -71,8 +71,7 @@ returns-2 c =
     let e = c .before .before .before .before .before in
     let a = e .before .before in
     let r = a .args in
-    let whole = array-found-whole (r .part .now) (r .at) (r .place) (e .if1 .left) _ (items-read c) (a .pre .1 .whole (e .if1 .left)) in
-    (
+    let whole = array-found-whole (r .part .now) (r .at) (r .place) (e .if1 .left) _ (items-read c) (a .pre .1 .whole (e .if1 .left)) in (
       array-found (r .part .now) (r .at) (r .place) (e .if1 .left) _ (items-read c),
       (numbers-inside _ _ (head-ends c) whole, array-placed (r .part .now) (r .at) (r .place) (e .if1 .left) _ (items-read c)),
     )
