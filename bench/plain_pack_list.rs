@@ -31,10 +31,14 @@ pub fn find_block(part: &[u8], byte: u64) -> Result<[u64; 6], u32> {
     if !all.filled {
         return Err(21);
     }
-    Ok(all.holder.map_or([0; 6], |(number, entry, counted)| {
+    Ok(all.holder.map_or([0; 6], |(number, entry, sums)| {
         let ulid = (entry.ulid.as_ptr() as usize - part.as_ptr() as usize) as u64;
         let offset = byte - entry.source.start;
-        match entry.block_at(all.stride, offset).filter(|_| counted) {
+        let block = match sums.counted {
+            true => entry.block_at(sums.blocks - 1, all.stride, offset),
+            false => None,
+        };
+        match block {
             Some((block, stored)) => [2, number, block, ulid, stored.start, stored.length],
             None => [1, number, 0, ulid, entry.stored.start, entry.stored.length],
         }
@@ -47,8 +51,8 @@ struct Survey<'a> {
     named: bool,
     filled: bool,
     stride: u64,
-    /// The first with the byte: its number, and whether it takes part in finding the stride.
-    holder: Option<(u64, Entry<'a>, bool)>,
+    /// The first with the byte, with its number.
+    holder: Option<(u64, Entry<'a>, Sums)>,
 }
 
 /// So many entries; None where one is not as described.
@@ -68,7 +72,7 @@ fn survey(count: u64, mut left: &[u8], byte: u64) -> Option<Survey<'_>> {
         all.filled &= sums.filled;
         all.stride = all.stride.max(sums.stride);
         if all.holder.is_none() && entry.source.has(byte) {
-            all.holder = Some((number, entry, sums.counted));
+            all.holder = Some((number, entry, sums));
         }
     }
     Some(all)
@@ -203,6 +207,7 @@ fn entry<'a>(left: &mut &'a [u8]) -> Option<Entry<'a>> {
 
 /// What the lengths and the deltas of an entry say.
 struct Sums {
+    blocks: u64,
     filled: bool,
     counted: bool,
     /// The least with which its blocks hold the source range; 0, where they are not counted.
@@ -219,7 +224,8 @@ impl Entry<'_> {
             };
             total += u128::from(length);
         }
-        let blocks = count + 1;
+        // One more than are listed, where these do not fill the range.
+        let blocks = count + u64::from(total < u128::from(self.stored.length));
         let (count, mut left) = self.deltas;
         let (mut gains, mut needed) = (0u128, u128::from(self.source.length));
         for k in 0..count {
@@ -230,9 +236,10 @@ impl Entry<'_> {
                 _ => return None,
             }
         }
-        let counted = gains.max(needed) <= u128::from(u64::MAX);
+        let counted = blocks > 0 && gains.max(needed) <= u128::from(u64::MAX);
         let short = self.source.is_short() && self.stored.is_short();
         Some(Sums {
+            blocks,
             filled: short && total <= u128::from(self.stored.length),
             counted,
             stride: match counted {
@@ -244,12 +251,12 @@ impl Entry<'_> {
         })
     }
 
-    /// The block with the byte at an offset of the source range: its number, and its range of the pack.
-    /// None where a block would have a length below 0.
-    fn block_at(&self, stride: u64, mut offset: u64) -> Option<(u64, Range)> {
-        let ((count, mut lengths), (deltas, mut delta)) = (self.lengths, self.deltas);
+    /// The block with the byte at an offset of the source range, by the number of the last block: its
+    /// number, and its range of the pack. None where a block would have a length below 0.
+    fn block_at(&self, last: u64, stride: u64, mut offset: u64) -> Option<(u64, Range)> {
+        let ((_, mut lengths), (deltas, mut delta)) = (self.lengths, self.deltas);
         let (mut source, mut stored, mut found) = (self.source.length, self.stored, None);
-        for k in 0..count {
+        for k in 0..last {
             let Item::Natural(length) = next(&mut lengths)? else {
                 return None;
             };
@@ -270,6 +277,6 @@ impl Entry<'_> {
             stored.start += length;
             stored.length -= length;
         }
-        found.or(Some((count, stored)))
+        found.or(Some((last, stored)))
     }
 }

@@ -381,7 +381,9 @@ uint64_t vof_pipe_end(uint64_t *state, size_t state_length);
    pack. The functions here read its primary part, which vof_record tells the place of. */
 
 /* What vof_pack_list tells of each entry. The pack's ULID has VOF_ULID_LENGTH bytes, and starts at
-   a place of the primary part; the stored range is counted in bytes of that pack. */
+   a place of the primary part; the stored range is counted in bytes of that pack. There is a block
+   for each length that is listed, and one more where these leave a rest of the stored range: none
+   where nothing is listed of a range of 0 bytes. */
 enum {
     VOF_PACK_LIST_ULID_START,
     VOF_PACK_LIST_SOURCE_START,
@@ -403,8 +405,8 @@ uint64_t vof_pack_list(const uint8_t *primary, size_t primary_length, uint64_t *
 enum {
     /* In no entry; the other numbers are 0 too. */
     VOF_FOUND_NOWHERE,
-    /* In an entry whose lengths place it in no block: the block is told as 0, and the stored range
-       is the entry's. */
+    /* In an entry that has no block, or whose lengths place it in none: the block is told as 0, and
+       the stored range is the entry's. */
     VOF_FOUND_ENTRY,
     VOF_FOUND_BLOCK
 };

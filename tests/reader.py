@@ -314,16 +314,23 @@ def read_pack_list(s):
     return id, entries
 
 
+def stored_lengths(entry):
+    """Of each block: those listed, and the rest of the pack's range, where there is one."""
+    rest = entry.stored.length - sum(entry.lengths)
+    return entry.lengths + ([rest] if rest else [])
+
+
 def block_deltas(entry):
     """The delta of each block, 0 where there is none; those past the last block play no part."""
-    count = len(entry.lengths) + 1
+    count = len(stored_lengths(entry))
     return (entry.deltas + [0] * count)[:count]
 
 
 def is_counted(entry):
+    """Whether it has a block, and 64 bits hold its sums."""
     deltas = block_deltas(entry)
     gains, losses = sum(d for d in deltas if d > 0), sum(-d for d in deltas if d < 0)
-    return gains <= GREATEST and entry.source.length + losses <= GREATEST
+    return bool(deltas) and gains <= GREATEST and entry.source.length + losses <= GREATEST
 
 
 def stride(entries):
@@ -337,7 +344,7 @@ def stride(entries):
 
 
 def source_lengths(entry, stride):
-    """Of each block; None where one would be below 0, or a sum is above 64 bits."""
+    """Of each block; None where one would be below 0, there is none, or a sum is above 64 bits."""
     lengths = [stride + delta for delta in block_deltas(entry)[:-1]]
     lengths.append(entry.source.length - sum(lengths))
     return lengths if is_counted(entry) and min(lengths) >= 0 else None
@@ -355,9 +362,8 @@ def find_block(s, byte):
             return Found(number, entry, None, entry.stored)
         # The block with the byte is the last that begins at or before it and is not empty.
         block = max(k for k, n in enumerate(lengths) if n and sum(lengths[:k]) <= offset)
-        last = entry.stored.length - sum(entry.lengths)
         start = entry.stored.start + sum(entry.lengths[:block])
-        return Found(number, entry, block, Range(start, [*entry.lengths, last][block]))
+        return Found(number, entry, block, Range(start, stored_lengths(entry)[block]))
     return None
 
 

@@ -371,10 +371,10 @@ def herd_block():
     at("herd", 0, made, "@ 32 l 53 " + TOLD + " " + told)
 
 
-def printed_list():
-    """The primary part of the pack list of 001:584."""
+def printed_list(*more):
+    """The primary part of the pack list of 001:584, with more lengths listed."""
     ranges = {"o": {"s": 0, "l": 36}, "t": {"s": 0, "l": 303}}
-    entry = {"p": "7YF1QJW74QNR5BZ83NC8307YYM", **ranges, "E": [101, 101], "N": []}
+    entry = {"p": "7YF1QJW74QNR5BZ83NC8307YYM", **ranges, "E": [101, 101, *more], "N": []}
     return item({"I": "7YF1QJW74PNYV552JB3YPAJJX1:bucket/object", "P": [entry]})
 
 
@@ -397,6 +397,9 @@ def document_001():
     blocks = ["P 0 # %d p 7YF1QJW74QNR5BZ83NC8307YYM @ %d l 101" % (k, 101 * k) for k in range(3)]
     of_blocks = [(n, blocks[n // 12]) for n in (0, 11, 12, 23, 24, 35)]
     find("001:584", printed_list(), *of_blocks, (36, "none"), (GREATEST, "none"))
+    # With its last length listed too, nothing is missing.
+    of_listed = [(n, blocks[n // 12]) for n in (0, 8, 9, 11, 12, 23, 24, 35)]
+    find("001:584, all listed", printed_list(101), *of_listed, (36, "none"), (GREATEST, "none"))
     part = item({"b": "bucket", "o": "object", "v": "7YF1QTCNCDN7FYSQFD2PFH2DCS"})
     wanted = "u 7YF1QTCNCDN7FYSQFD2PFH2DCS b bucket o object d 0"
     vector("version", "001:822", part, wanted)
@@ -1017,13 +1020,13 @@ TWENTY = entry((0, 20), (50, 13), [7], pack=ULID)
 
 
 def in_three(start, *deltas):
-    """25 bytes from a byte on in 3 blocks of 6, 8 and no stored bytes."""
-    return entry((start, 25), (70, 14), [6, 8], deltas)
+    """25 bytes from a byte on in 3 blocks of 6, 8 and 5 stored bytes."""
+    return entry((start, 25), (70, 19), [6, 8], deltas)
 
 
 def thirds(number, lengths):
     """Where the bytes of such an entry from byte 100 on stand, by its blocks' source lengths."""
-    start, stored = 100, [(70, 6), (76, 8), (84, 0)]
+    start, stored = 100, [(70, 6), (76, 8), (84, 5)]
     for k, n in enumerate(lengths):
         if n:
             yield start, in_block(number, k, *stored[k])
@@ -1039,7 +1042,7 @@ def strides():
         if lengths:
             wanted = list(dict(thirds(number, lengths)).items())
         else:
-            wanted = [(n, in_entry(number, 70, 14)) for n in (100, 112, 124)] + [(125, "none")]
+            wanted = [(n, in_entry(number, 70, 19)) for n in (100, 112, 124)] + [(125, "none")]
         find(name, pack_list(*entries), *wanted, (99, "none"))
 
     half = 2**63
@@ -1096,7 +1099,7 @@ def blocks_found():
         *[(n, in_block(0, 1, 57, 6, ULID)) for n in (10, 19)],
         *[(n, in_block(1, 0, 70, 6)) for n in (20, 29)],
         *[(n, in_block(1, 1, 76, 8)) for n in (30, 39)],
-        *[(n, in_block(1, 2, 84, 0)) for n in (40, 44)],
+        *[(n, in_block(1, 2, 84, 5)) for n in (40, 44)],
         (45, "none"),
     )
     find(
@@ -1105,16 +1108,19 @@ def blocks_found():
         (0, in_block(1, 0, 50, 7, ULID)),
         (10, in_block(1, 1, 57, 6, ULID)),
         (20, in_block(0, 0, 70, 6)),
-        (40, in_block(0, 2, 84, 0)),
+        (40, in_block(0, 2, 84, 5)),
         (45, "none"),
     )
-    nine, ten = (9, in_block(1, 0, 50, 7, ULID)), (19, in_block(0, 1, 57, 6, ULID))
+    def ten_of(number):
+        return 19, in_block(number, 1, 57, 6, ULID)
+
+    nine, ten = (9, in_block(1, 0, 50, 7, ULID)), ten_of(0)
     find("in several", pack_list(TWENTY, in_three(10)), ten, (20, in_block(1, 1, 76, 8)))
     reverse = pack_list(in_three(10), TWENTY)
     find("in several, reverse", reverse, nine, (19, in_block(0, 0, 70, 6)))
     find("in two of the same range", pack_list(TWENTY, {**TWENTY, "p": OTHER}), ten)
     alone = pack_list(in_three(10, GREATEST, 1), TWENTY)
-    find("in several, the first alone", alone, nine, (19, in_entry(0, 70, 14)))
+    find("in several, the first alone", alone, nine, (19, in_entry(0, 70, 19)))
     find("between entries", pack_list(TWENTY, in_three(30)), ten, (20, "none"), (29, "none"))
     find("no P", item({"I": HERD}), (0, "none"), (GREATEST, "none"))
     find("no entries", pack_list(), (0, "none"))
@@ -1122,10 +1128,13 @@ def blocks_found():
     find("an entry without bytes", pack_list(empty), (4, "none"), (5, "none"), (6, "none"))
     find("one before others", pack_list(empty, TWENTY), (5, in_block(1, 0, 50, 7, ULID)))
     without = pack_list({"p": OTHER, "o": {"l": 5}, "t": {"s": 9}})
-    find("no stored bytes", without, *[(k, in_block(0, 0, 9, 0)) for k in (0, 4)], (5, "none"))
+    find("no stored bytes", without, *[(k, in_entry(0, 9, 0)) for k in (0, 4)], (5, "none"))
+    beside = pack_list(entry((20, 5), (9, 0)), TWENTY)
+    find("no stored bytes, beside others", beside, ten_of(1), (20, in_entry(0, 9, 0)))
     filled = entry((0, 4), (0, 7), [3, 4, 0])
-    find("lengths that fill the range", pack_list(filled), (3, in_block(0, 3, 7, 0)))
-    find("lengths of 0", pack_list(entry((0, 4), (9, 0), [0, 0, 0])), (2, in_block(0, 2, 9, 0)))
+    find("a last length of 0, listed", pack_list(filled), (3, in_block(0, 1, 3, 4)))
+    zeros = pack_list(entry((0, 4), (9, 0), [0, 0, 0]))
+    find("lengths of 0", zeros, (1, in_block(0, 0, 9, 0)), (2, in_block(0, 1, 9, 0)))
     map = {"b": "herd", "o": "k", "v": ULID}
     inside = item({"P": [TWENTY], "U": NIL, "I": map})
     find("the identifier as a map", inside, (10, in_block(0, 1, 57, 6, ULID)))
@@ -1150,9 +1159,8 @@ def blocks_found_near_64_bits():
         "the last bytes",
         pack_list(entry((most - 9, 9), (most - 5, 5), [2, 3])),
         (most - 10, "none"),
-        (most - 9, in_block(0, 0, most - 5, 2)),
-        (most - 6, in_block(0, 1, most - 3, 3)),
-        (most - 1, in_block(0, 2, most, 0)),
+        *[(n, in_block(0, 0, most - 5, 2)) for n in (most - 9, most - 5)],
+        *[(n, in_block(0, 1, most - 3, 3)) for n in (most - 4, most - 1)],
         (most, "none"),
     )
     # The stride of the one is too long for the other.
@@ -1166,7 +1174,7 @@ def blocks_found_near_64_bits():
         ("two", [-half, -(half - 1)]),
         ("two in reverse", [-(half - 1), -half]),
     ]:
-        long = entry((0, 0), (0, 0), [0] * (len(lost) - 1), lost)
+        long = entry((0, 0), (0, 1), [0] * (len(lost) - 1), lost)
         for said, deltas, wanted in [
             ("taken away", [-half], in_block(1, 1, 4, 3)),
             ("taken away twice", [-half, 6 - half], in_block(1, 1, 4, 3)),

@@ -191,7 +191,8 @@ class Line(NamedTuple):
 
 class PackEntry(NamedTuple):
     """An entry of a pack list: a range of the version's data, and where it is stored in which pack,
-    in so many blocks."""
+    in so many blocks: one for each length that is listed, and one more where these leave a rest of
+    the stored range."""
 
     ulid: bytes
     source: Place

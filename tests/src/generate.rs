@@ -188,6 +188,10 @@ fn entry(random: &mut Random, stride: usize) -> Tree {
         left -= length;
         lengths.push(integer(random, i128::from(length)));
     }
+    // All are listed, so that none is missing.
+    if random.once_in(3) {
+        lengths.push(integer(random, i128::from(left)));
+    }
     if random.fault_in(30) {
         lengths.push(Tree::Integer(i128::from(left.saturating_add(1))));
     }

@@ -7,16 +7,16 @@ use mathlib.Core.Path.{_≡_, refl, sym, ap, _∙_}
 use native.Mathlib.Omega.{arith}
 use borrow.Author.Tests.{le-leb, lt-leb}
 use lib.ListN.{length, drop}
-use Rattle.slices.specs.Bytes.{AllBytes, drop-bytes}
+use Rattle.slices.specs.Bytes.{AllBytes}
 use Rattle.slices.specs.Logic.{absurd-numbers}
 use Rattle.slices.specs.Overwriting.{overwritten, writtenBytes, written-within, length-overwritten, overwritten-more, none-overwritten}
 use Rattle.refusals.specs.Answers.{result, refused}
 use Rattle.msgpack.specs.Views.{byteView}
-use Rattle.value.specs.Fields.{readNatural}
 use Rattle.pack_list.specs.Lists.{Entry, PackList, entryAt, packList}
+use Rattle.pack_list.specs.Blocks.{blocks}
 use Rattle.pack_list.specs.Answers.{entryOf, entriesIn, listIn, ListInside, nextEntry, nextOf, NextInside, readingOf, ReadingInside}
 use Rattle.pack_list.specs.Walks.{items-count, each-count, entry-is, EntriesFrom, walk-end, Walked, walk-on}
-use Rattle.pack_list.specs.Counts.{entries-few, lengths-few}
+use Rattle.pack_list.specs.Counts.{entries-few}
 use Rattle.pack_list.specs.declared.Numbers.{Numbers}
 use Rattle.pack_list.specs.declared.Entry as placed
 use Rattle.pack_list.specs.declared.PackList as listed
@@ -82,7 +82,7 @@ module _ (s : List ℕ) (n : Numbers) where
       pub not-missing : r ≡ next-answer.Missing → ⊥
       not-missing e = let is = walked .is in absurd-numbers (cc)
 
-      module _ (e : placed.Entry) (next : ℕ) (is : r ≡ next-answer.Entry e next) where
+      module _ (e : placed.Entry) (count next : ℕ) (is : r ≡ next-answer.Entry e count next) where
         same-entry : walked .entry ≡ e
         same-entry = let w = walked .is in cc
 
@@ -92,21 +92,17 @@ module _ (s : List ℕ) (n : Numbers) where
         reads : entryOf s e ≡ some (walked .first)
         reads = rw (← same-entry) (walked .reads)
 
-        lengths-count : length (walked .first .lengths) ≡ e .lengths .count
-        lengths-count =
-            each-count readNatural _ _ (entry-is s e (walked .first) reads .lengths) ∙ items-count (e .lengths .count) (drop (e .lengths .first) s)
-
-        pub blocks-few : AllBytes s → e .lengths .count < 2 ^ 33
-        blocks-few bytes = omega (arith, lengths-count, lengths-few (drop at s) (drop-bytes at bytes) (walked .first) (walked .told))
+        as-many : count ≡ blocks (walked .first)
+        as-many = let w = walked .is in let same : walked .count ≡ count = cc in sym same ∙ walked .as-many
 
         -- its words, as the code has them
         abbrev here-words : List ℕ
-        here-words = e .pack .start ∷ e .source .start ∷ e .source .len ∷ e .stored .start ∷ e .stored .len ∷ (e .lengths .count + 1) ∷ []
+        here-words = e .pack .start ∷ e .source .start ∷ e .source .len ∷ e .stored .start ∷ e .stored .len ∷ count ∷ []
 
         words-are : here-words ≡ entryWords (packStart s i) (walked .first)
         words-are =
             let w = entry-is s e (walked .first) reads in
-            rw (start-told s i e (rw (← same-entry) (walked .stands)), w .source, w .stored, lengths-count)
+            rw (start-told s i e (rw (← same-entry) (walked .stands)), w .source, w .stored, as-many)
 
         pub goes-on : (now : List ℕ) → now ≡ writtenBytes told (6 * i) here-words → FilledTo before now (i + 1) next
         unfolding listWords

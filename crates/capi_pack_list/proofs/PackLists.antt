@@ -11,13 +11,14 @@ use lib.ListN.{length, getD, length-drop}
 use Rattle.slices.specs.Overwriting.{writtenBytes}
 use Rattle.refusals.specs.Answers.{result, refused}
 use Rattle.pack_list.specs.Lists.{Entry}
-use Rattle.pack_list.specs.Blocks.{Found, nowhere, inEntry, inBlock}
-use Rattle.pack_list.specs.Answers.{entryOf, packPlace, entryItems, foundOf, findIn, EntryStands, FoundStands}
+use Rattle.pack_list.specs.Answers.{entryOf, packPlace, entryItems, EntryStands}
 use Rattle.pack_list.specs.Walks.{entry-is}
 use Rattle.pack_list.specs.declared.Entry as placed
-use Rattle.pack_list.specs.declared.Block.{Block}
-use Rattle.pack_list.specs.declared.Found as found
-use Rattle.pack_list.specs.declared.Found.the-variants as found-answer
+use Rattle.block_of_byte.specs.Finding.{Found, nowhere, inEntry, inBlock}
+use Rattle.block_of_byte.specs.Answers.{foundOf, findIn, FoundStands}
+use Rattle.block_of_byte.specs.declared.Block.{Block}
+use Rattle.block_of_byte.specs.declared.Found as found
+use Rattle.block_of_byte.specs.declared.Found.the-variants as found-answer
 use Rattle.words.specs.Words.{answer, answer-whole}
 use Rattle.capi_pack_list.specs.PackLists.{startOf, packStart, foundWords, findAnswer, findTold}
 

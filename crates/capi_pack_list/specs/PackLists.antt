@@ -9,8 +9,9 @@ use Rattle.slices.specs.Overwriting.{overwritten}
 use Rattle.slices.specs.declared.Place.{Place}
 use Rattle.refusals.specs.Answers.{Answer, result, refused}
 use Rattle.pack_list.specs.Lists.{Entry, PackList}
-use Rattle.pack_list.specs.Blocks.{Found, nowhere, inEntry, inBlock}
+use Rattle.pack_list.specs.Blocks.{blocks}
 use Rattle.pack_list.specs.Answers.{packPlace, entryItems}
+use Rattle.block_of_byte.specs.Finding.{Found, nowhere, inEntry, inBlock}
 use Rattle.words.specs.Words.{answer}
 
 -- ---- where an entry's pack is named
@@ -28,7 +29,7 @@ packStart s number = startOf (packPlace s (length s - length (getD (entryItems s
 
 -- ULID, start and length of the source range and of the stored one, and how many blocks
 abbrev pub entryWords : ℕ → Entry → List ℕ
-entryWords start e = start ∷ e .source .start ∷ e .source .len ∷ e .stored .start ∷ e .stored .len ∷ (length (e .lengths) + 1) ∷ []
+entryWords start e = start ∷ e .source .start ∷ e .source .len ∷ e .stored .start ∷ e .stored .len ∷ blocks e ∷ []
 
 -- of the entries from this number on
 unfoldable pub listWords : List ℕ → ℕ → List Entry → List ℕ

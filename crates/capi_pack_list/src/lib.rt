@@ -6,10 +6,11 @@ ghost use lib.ListN.{length};
 ghost use Prim.Native.Nat.{_*_, _≤_};
 ghost use Rattle.slices.specs.Overwriting.{overwritten, writtenBytes};
 ghost use Rattle.pack_list.specs.Lists.{packList};
-ghost use Rattle.pack_list.specs.Answers.{entriesIn, ListInside, findIn};
+ghost use Rattle.pack_list.specs.Answers.{entriesIn, ListInside};
+ghost use Rattle.block_of_byte.specs.Answers.{findIn};
 ghost use Rattle.words.specs.Words.{answer};
 ghost use Rattle.capi_pack_list.specs.PackLists.{listWords, listAnswer, listTold, findAnswer, findTold};
-use pack_list::Found;
+use block_of_byte::Found;
 use pack_list::NextEntry;
 use pack_list::PackList;
 use pack_list::Reading;
@@ -24,13 +25,13 @@ fn fill(primary: &[u8], list: PackList, told: &mut [u64])
     let mut i = 0;
     let mut at = entries.first;
     while i < entries.count {
-        let NextEntry::Entry(e, next) = pack_list::next_entry(primary, at) else {
+        let NextEntry::Entry(e, count, next) = pack_list::next_entry(primary, at) else {
             return;
         };
         let pack = e.pack.start as u64;
         let source = e.source;
         let stored = e.stored;
-        let blocks = e.lengths.count as u64 + 1;
+        let blocks = count as u64;
         let entry = [
             pack,
             source.start,
@@ -84,7 +85,7 @@ pub extern "C" fn vof_find_block(primary: &[u8], byte: u64, told: &mut [u64]) ->
     ensures answer { λ r. ⌜ r ≡ findAnswer (findIn (now (primary .entry)) byte) (length (now (told .entry))) ⌝ }
     ensures told { λ _. ⌜ now (told .exit) ≡ findTold (now (primary .entry)) (findIn (now (primary .entry)) byte) (now (told .entry)) ⌝ }
 {
-    match pack_list::find(primary, byte) {
+    match block_of_byte::find(primary, byte) {
         Found::Nowhere => tell(told, &[0, 0, 0, 0, 0, 0]),
         Found::Entry(k, e) => {
             let pack = e.pack.start as u64;

@@ -19,7 +19,7 @@ use Rattle.msgpack.specs.ReaderLaws.{array-items}
 use Rattle.msgpack.specs.Views.{sizeOf, itemsFrom, byteView}
 use Rattle.value.specs.Fields.{readNatural}
 use Rattle.pack_list.specs.Lists.{eachOf, sum}
-use Rattle.pack_list.specs.Answers.{WholeItems, NumbersInside}
+use Rattle.pack_list.specs.Answers.{numbersBy, WholeItems, NumbersInside, withinFrom}
 use Rattle.pack_list.specs.declared.Numbers.{Numbers}
 use Rattle.pack_list.specs.declared.NumbersRead.the-variants as numbers-answer
 use Rattle.pack_list.specs.Walks.{each-on, each-stops}
@@ -55,11 +55,14 @@ module _ (s : List ℕ) (at place : ℕ) (there : place ≡ 0 → ⊥) where
       let items = array-items (drop (at + place) s) c e (subst WholeItem (drop-drop place at s) w) in
       subst (WholeItems (c .count)) (drop-drop (c .size) (at + place) s) (record { size = items .after; is = items .rest })
 
--- ---- lengths, of which none is added before it is compared
+  pub array-placed : (c : Counted) → readArray (drop (at + place) s) ≡ some c
+      → some (record { count = c .count; first = at + place + c .size }) ≡ numbersBy s at (placeTold place)
+  array-placed c e = rw (told-found place there, e)
 
--- whether those are within a total, of which this much is left, if those before them are
-unfoldable pub withinFrom : Bool → ℕ → List ℕ → Bool
-withinFrom within left ls = within && leb (sum ls) left
+  pub no-array-placed : readArray (drop (at + place) s) ≡ none → none ≡ numbersBy s at (placeTold place)
+  no-array-placed e = rw (told-found place there, e)
+
+-- ---- lengths, of which none is added before it is compared
 
 leb-sum : (n x left : ℕ) → leb (n + x) left ≡ (leb n left && leb x (left - n))
 leb-sum n x left = by (leb n left) refl
@@ -70,8 +73,8 @@ leb-sum n x left = by (leb n left) refl
 
 within-more : (within : Bool) (left n : ℕ) (ls : List ℕ) → withinFrom within left (n ∷ ls) ≡ withinFrom (within && leb n left) (left - n) ls
 unfolding withinFrom sum
-within-more true left n ls = leb-sum n (sum ls) left
-within-more false left n ls = refl
+within-more true left n ls = let rest : left - (n + sum ls) ≡ left - n - sum ls = omega arith in rw (rest, leb-sum n (sum ls) left)
+within-more false left n ls = let rest : left - (n + sum ls) ≡ left - n - sum ls = omega arith in rw rest
 
 module _ (s : List ℕ) (at count : ℕ) (within : Bool) (left : ℕ) (more : 0 < count) where
   abbrev lengthsRead : Option (List ℕ)
@@ -91,7 +94,7 @@ module _ (s : List ℕ) (at count : ℕ) (within : Bool) (left : ℕ) (more : 0 
   pub no-length : readNatural (drop at s) ≡ none → over (withinFrom within left) lengthsRead ≡ none
   no-length e = rw (each-stops readNatural s at count _ more refl e)
 
-pub lengths-all : (s : List ℕ) (within : Bool) (left : ℕ) → over (withinFrom within left) (eachOf readNatural (itemsFrom 0 s)) ≡ some within
+pub lengths-all : (s : List ℕ) (within : Bool) (left : ℕ) → over (withinFrom within left) (eachOf readNatural (itemsFrom 0 s)) ≡ some (within, left)
 unfolding eachOf itemsFrom withinFrom sum
-lengths-all s true left = rw (le-leb 0 left (omega arith))
-lengths-all s false left = refl
+lengths-all s true left = let all : left - 0 ≡ left = omega arith in rw (le-leb 0 left (omega arith), all)
+lengths-all s false left = let all : left - 0 ≡ left = omega arith in rw all

@@ -5,33 +5,37 @@ use mathlib.Core.List.{List, []}
 use mathlib.Core.Option.{Option, none, some}
 use mathlib.Core.Path.{_≡_, refl, sym, ap, subst, _∙_}
 use native.Mathlib.Omega.{arith}
-use lib.Dec.{leb}
+use lib.Dec.{ltb, leb}
 use lib.ListN.{length, take, drop, length-drop}
 use lib.Seq.{drop-drop}
-use Rattle.slices.specs.Logic.{absurd-numbers}
+use Rattle.slices.specs.Logic.{absurd-numbers, both}
 use Rattle.slices.specs.Places.{partAt}
 use Rattle.primary.specs.Answers.{placedAt}
 use Rattle.primary.specs.Parts.{textUnder}
 use Rattle.identifier.specs.Ulid.{isUlid}
-use Rattle.msgpack.specs.Items.{whole, passItems, passItem}
+use Rattle.msgpack.specs.Items.{whole, passItems, passItem, passOver}
 use Rattle.msgpack.specs.Lookup.{Under, found, missing, broken, lastValue, atPlace, ifThere, over}
 use Rattle.msgpack.specs.Pairs.{insideAllowed, placeTold}
 use Rattle.msgpack.specs.LookupLaws.{value-whole}
 use Rattle.msgpack.specs.PairLaws.{told-inside, told-found}
 use Rattle.msgpack.specs.PassingLaws.{joined, bounded}
 use Rattle.msgpack.specs.Readers.{Int, readInteger, readText}
-use Rattle.msgpack.specs.Views.{repeats, textAt, byteView}
+use Rattle.msgpack.specs.Views.{sizeOf, repeats, textAt, byteView}
 use Rattle.value.specs.Fields.{readNatural}
 use Rattle.pack_list.specs.Lists.{packKey, sourceKey, storedKey, lengthsKey, deltasKey, entryKeys, rangeKeys, Entry, eachOf, listAt, naturalAt, rangeAt, entryAt, rangeRepeats, entryRepeats, sum, isShort, isFilled}
-use Rattle.pack_list.specs.Blocks.{blocks, deltasOf, gains, losses, isCounted, ceiling, strideFor}
+use Rattle.pack_list.specs.Blocks.{restOf, blocks, deltasOf, gains, losses, isCounted, ceiling, strideFor}
+use Rattle.pack_list.specs.Lengths.{blocks-with-rest}
 use Rattle.pack_list.specs.declared.Range.{Range}
+use Rattle.pack_list.specs.declared.Numbers.{Numbers}
+use Rattle.pack_list.specs.declared.NumbersRead.{NumbersRead}
+use Rattle.pack_list.specs.declared.NumbersRead.the-variants as numbers-answer
 use Rattle.pack_list.specs.declared.Sums.{Sums}
 use Rattle.pack_list.specs.declared.Tests.{Tests}
 use Rattle.pack_list.specs.declared.Entry as placed
 use Rattle.pack_list.specs.declared.EntryRead.{EntryRead}
 use Rattle.pack_list.specs.declared.EntryRead.the-variants as entry-answer
 use Rattle.pack_list.specs.declared.NextEntry.the-variants as next-answer
-use Rattle.pack_list.specs.Answers.{rangeTold, ValueAt, WholeItems, itemsIn, SumsAre, AreSummed, entryOf, Told, toldOf, toldIn, entryTold, packPlace, SameEntry, EntryHere, EntryInside, NextInside}
+use Rattle.pack_list.specs.Answers.{rangeTold, ValueAt, numbersAt, numbersBy, numbersPlace, withinFrom, WholeItems, itemsIn, SumsAre, AreSummed, entryOf, Told, toldOf, toldIn, entryTold, packPlace, SameEntry, EntryHere, EntryInside, NextInside}
 use Rattle.pack_list.specs.Walks.{items-count, each-count}
 
 -- ---- as many items as are counted
@@ -55,46 +59,48 @@ module _ (x : Entry) (n : ℕ) (sums : Sums) (are-blocks : n ≡ blocks x) (are 
   unfolding deltasOf
   sums-are = subst (λ (k : ℕ). SumsAre (x .source .len) (take k (x .deltas)) sums) are-blocks are
 
-  pub counted-told : sums .counted ≡ isCounted x
+  pub counted-told : (ltb 0 n && sums .counted) ≡ isCounted x
   unfolding isCounted gains losses
-  counted-told = sums-are .counted
+  counted-told = rw (are-blocks, sums-are .counted)
 
-  pub stride-told : cond (sums .counted) (ceiling (sums .losses - sums .gains) (n - 1)) 0 ≡ cond (isCounted x) (strideFor x) 0
-  unfolding strideFor gains losses blocks
+  pub stride-told : cond (ltb 0 n && sums .counted) (ceiling (sums .losses - sums .gains) (n - 1)) 0 ≡ cond (isCounted x) (strideFor x) 0
+  unfolding strideFor gains losses
   stride-told = by (isCounted x) counted-told
     where
-      by : (t : Bool) → sums .counted ≡ t → cond (sums .counted) (ceiling (sums .losses - sums .gains) (n - 1)) 0 ≡ cond t (strideFor x) 0
+      by : (t : Bool) → (ltb 0 n && sums .counted) ≡ t
+          → cond (ltb 0 n && sums .counted) (ceiling (sums .losses - sums .gains) (n - 1)) 0 ≡ cond t (strideFor x) 0
       by true e =
-          let others : n - 1 ≡ length (x .lengths) = omega (arith, are-blocks) in
-          rw (e, sums-are .gains e, sums-are .losses e, others)
+          let c = both (ltb 0 n) (sums .counted) e .1 in
+          rw (e, sums-are .gains c, sums-are .losses c, are-blocks)
       by false e = rw e
 
 -- ---- the entry
 
-abbrev tests : (repeated named filled : Bool) (stride : ℕ) (counted : Bool) → Tests
-tests repeated named filled stride counted = record { repeated = repeated; named = named; filled = filled; stride = stride; counted = counted }
+abbrev tests : (size : ℕ) (repeated named filled : Bool) (blocks stride : ℕ) (counted : Bool) → Tests
+tests size repeated named filled blocks stride counted =
+    record { size = size; repeated = repeated; named = named; filled = filled; blocks = blocks; stride = stride; counted = counted }
 
 abbrev told : Entry → Tests → Told
 told e t = record { entry = e; tests = t }
 
-same-tests : (repeated : Bool) {named named' filled filled' : Bool} {stride stride' : ℕ} {counted counted' : Bool}
-    → named ≡ named' → filled ≡ filled' → stride ≡ stride' → counted ≡ counted'
-    → tests repeated named filled stride counted ≡ tests repeated named' filled' stride' counted'
-same-tests repeated a b c d = rw (a, b, c, d)
+same-tests : (size : ℕ) (repeated : Bool) {named named' filled filled' : Bool} {blocks blocks' stride stride' : ℕ} {counted counted' : Bool}
+    → named ≡ named' → filled ≡ filled' → blocks ≡ blocks' → stride ≡ stride' → counted ≡ counted'
+    → tests size repeated named filled blocks stride counted ≡ tests size repeated named' filled' blocks' stride' counted'
+same-tests size repeated a b c d e = rw (a, b, c, d, e)
 
-module _ (s : List ℕ) (e : placed.Entry) (repeated : Bool) where
+module _ (s : List ℕ) (e : placed.Entry) (repeated : Bool) (size : ℕ) where
   -- a number that is none
-  pub no-lengths : eachOf readNatural (itemsIn s (e .lengths)) ≡ none → none ≡ over (λ x. toldOf x repeated) (entryOf s e)
+  pub no-lengths : eachOf readNatural (itemsIn s (e .lengths)) ≡ none → none ≡ over (λ x. toldOf x repeated size) (entryOf s e)
   unfolding entryOf
   no-lengths h = rw h
 
   pub no-deltas : (ls : List ℕ) → eachOf readNatural (itemsIn s (e .lengths)) ≡ some ls → eachOf readInteger (itemsIn s (e .deltas)) ≡ none
-      → none ≡ over (λ x. toldOf x repeated) (entryOf s e)
+      → none ≡ over (λ x. toldOf x repeated size) (entryOf s e)
   unfolding entryOf
   no-deltas ls l h = rw (l, h)
 
-  module _ (ls : List ℕ) (lengths-are : eachOf readNatural (itemsIn s (e .lengths)) ≡ some ls)
-      (n : ℕ) (as-many : n ≡ e .lengths .count + 1) (sums : Sums) (summed : AreSummed (itemsIn s (e .deltas)) n (e .source .len) sums) where
+  module _ (ls : List ℕ) (lengths-are : eachOf readNatural (itemsIn s (e .lengths)) ≡ some ls) (rest : ℕ) (left : rest ≡ e .stored .len - sum ls)
+      (n : ℕ) (as-many : n ≡ e .lengths .count + length (restOf rest)) (sums : Sums) (summed : AreSummed (itemsIn s (e .deltas)) n (e .source .len) sums) where
     abbrev entry : Entry
     entry = record { pack = partAt s (e .pack); source = e .source; stored = e .stored; lengths = ls; deltas = summed .deltas }
 
@@ -103,19 +109,22 @@ module _ (s : List ℕ) (e : placed.Entry) (repeated : Bool) where
     entry-is = rw (lengths-are, summed .are)
 
     are-blocks : n ≡ blocks entry
-    unfolding blocks
-    are-blocks = omega (arith, as-many, each-count readNatural _ ls lengths-are, items-count (e .lengths .count) (drop (e .lengths .first) s))
+    are-blocks =
+        let last : length (restOf rest) ≡ length (restOf (e .stored .len - sum ls)) = ap (λ (k : ℕ). length (restOf k)) left in
+        let listed = each-count readNatural _ ls lengths-are in
+        omega (arith, as-many, last, blocks-with-rest entry, listed, items-count (e .lengths .count) (drop (e .lengths .first) s))
 
     pub entry-tested : (named short fits within : Bool) (stride : ℕ) → named ≡ isUlid (partAt s (e .pack))
         → short ≡ isShort (e .source) → fits ≡ isShort (e .stored) → within ≡ leb (sum ls) (e .stored .len)
-        → stride ≡ cond (sums .counted) (ceiling (sums .losses - sums .gains) (n - 1)) 0
-        → toldIn s (entry-answer.Entry e (tests repeated named (short && (fits && within)) stride (sums .counted)))
-        ≡ over (λ x. toldOf x repeated) (entryOf s e)
+        → stride ≡ cond (ltb 0 n && sums .counted) (ceiling (sums .losses - sums .gains) (n - 1)) 0
+        → toldIn s (entry-answer.Entry e (tests size repeated named (short && (fits && within)) n stride (ltb 0 n && sums .counted)))
+        ≡ over (λ x. toldOf x repeated size) (entryOf s e)
     unfolding toldOf isFilled
     entry-tested named short fits within stride a b c d f =
         rw entry-is
         (ap (λ (t : Tests). some (told entry t))
-        (same-tests repeated a (rw (b, c, d)) (f ∙ stride-told entry n sums are-blocks (summed .sums)) (counted-told entry n sums are-blocks (summed .sums))))
+        (same-tests size repeated a (rw (b, c, d)) are-blocks (f ∙ stride-told entry n sums are-blocks (summed .sums))
+        (counted-told entry n sums are-blocks (summed .sums))))
 
 pub same-entry : (s : List ℕ) (e : placed.Entry) (t : Tests) (lengths : List ℕ) (deltas : List Int)
     → eachOf readNatural (itemsIn s (e .lengths)) ≡ some lengths → eachOf readInteger (itemsIn s (e .deltas)) ≡ some deltas
@@ -135,16 +144,21 @@ no-entry s e = record { same = λ x u q. absurd-numbers (cc); there = λ x u q n
 
 -- ---- lengths of which it was told whether they are within a total
 
-pub record WithinTold (o : Option (List ℕ)) (total : ℕ) (within : Bool) : Type 0 where
+pub record WithinTold (o : Option (List ℕ)) (total : ℕ) (within : Bool) (rest : ℕ) : Type 0 where
   pub lengths : List ℕ
   pub are : o ≡ some lengths
   pub is : within ≡ leb (sum lengths) total
+  pub left : rest ≡ total - sum lengths
 
-pub within-told : (o : Option (List ℕ)) (total : ℕ) (within : Bool) → some within ≡ over (λ ls. leb (sum ls) total) o → WithinTold o total within
-within-told (some ls) total within e = record { lengths = ls; are = refl; is = cc }
-within-told none total within e = absurd-numbers (cc)
+pub within-told : (o : Option (List ℕ)) (total : ℕ) (within : Bool) (rest : ℕ) → some (within, rest) ≡ over (withinFrom true total) o
+    → WithinTold o total within rest
+unfolding withinFrom
+within-told (some ls) total within rest e =
+    let pair : _≡_ {A = Bool × ℕ} (within, rest) (leb (sum ls) total, total - sum ls) = cc in
+    record { lengths = ls; are = refl; is = ap (λ (x : Bool × ℕ). x .0) pair; left = ap (λ (x : Bool × ℕ). x .1) pair }
+within-told none total within rest e = absurd-numbers (cc)
 
-pub none-told : (o : Option (List ℕ)) (total : ℕ) → none ≡ over (λ ls. leb (sum ls) total) o → o ≡ none
+pub none-told : (o : Option (List ℕ)) (total : ℕ) → none ≡ over (withinFrom true total) o → o ≡ none
 none-told (some ls) total e = absurd-numbers (cc)
 none-told none total e = refl
 
@@ -252,7 +266,7 @@ module _ (m : List ℕ) where
 module _ (s m : List ℕ) (e : placed.Entry) (outside twice again : Bool) (pack : textUnder byteView packKey m ≡ some (partAt s (e .pack)))
     (source : RangeUnder (byteView .under sourceKey m) (e .source) twice) (stored : RangeUnder (byteView .under storedKey m) (e .stored) again)
     (lengths : lengthsUnder m ≡ eachOf readNatural (itemsIn s (e .lengths))) (deltas : deltasUnder m ≡ eachOf readInteger (itemsIn s (e .deltas)))
-    (repeated : repeats byteView entryKeys m ≡ outside) where
+    (repeated : repeats byteView entryKeys m ≡ outside) (size : ℕ) (sized : sizeOf (passOver m) ≡ size) where
   entry-read : entryAt byteView m ≡ entryOf s e
   unfolding entryOf
   entry-read = entry-by m (some _) (some _) (some _) _ _ pack (source .range) (stored .range) lengths deltas
@@ -261,26 +275,47 @@ module _ (s m : List ℕ) (e : placed.Entry) (outside twice again : Bool) (pack 
   unfolding entryRepeats
   repeats-read = rw (repeated, source .repeats, stored .repeats)
 
-  pub entry-told : over (λ x. toldOf x (outside || (twice || again))) (entryOf s e) ≡ entryTold m
+  pub entry-told : over (λ x. toldOf x (outside || (twice || again)) size) (entryOf s e) ≡ entryTold m
   unfolding entryTold
   entry-told =
-      ap (over (λ x. toldOf x (outside || (twice || again)))) (sym entry-read)
-      ∙ ap (λ (b : Bool). over (λ x. toldOf x b) (entryAt byteView m)) (sym repeats-read)
+      ap (over (λ x. toldOf x (outside || (twice || again)) size)) (sym entry-read)
+      ∙ ap (λ (b : Bool). over (λ x. toldOf x b size) (entryAt byteView m)) (sym repeats-read)
+      ∙ ap (λ (k : ℕ). over (λ x. toldOf x (entryRepeats byteView m) k) (entryAt byteView m)) (sym sized)
 
--- ---- where the pack's text stands
+-- ---- where the pack's text, the lengths and the deltas stand
 
-pub entry-inside : (s : List ℕ) (at : ℕ) (e : placed.Entry) (r : EntryRead) → SameEntry s e r → some (e .pack) ≡ packPlace s at → EntryInside s at r
-entry-inside s at e r same p =
-    record { here = λ x t q. record { pack = ap (λ (y : placed.Entry). some (y .pack)) (same .same x t q) ∙ p; there = same .there x t q } }
+pub numbers-placed : (key s : List ℕ) (at p : ℕ) → lastValue key (drop at s) ≡ placeTold p → (r : NumbersRead) → numbersAt r ≡ numbersBy s at (placeTold p)
+    → (n : Numbers) → r ≡ numbers-answer.Numbers n → some n ≡ numbersPlace key s at
+unfolding numbersPlace
+numbers-placed key s at p e r h n q = sym (ap numbersAt q) ∙ h ∙ ap (numbersBy s at) (sym e)
+
+pub entry-inside : (s : List ℕ) (at : ℕ) (e : placed.Entry) (r : EntryRead) → SameEntry s e r → some (e .pack) ≡ packPlace s at
+    → some (e .lengths) ≡ numbersPlace lengthsKey s at → some (e .deltas) ≡ numbersPlace deltasKey s at → EntryInside s at r
+entry-inside s at e r same p ls ds =
+    record {
+      here = λ x t q.
+          let is = same .same x t q in
+          record {
+            pack = ap (λ (y : placed.Entry). some (y .pack)) is ∙ p;
+            lengths = ap (λ (y : placed.Entry). some (y .lengths)) is ∙ ls;
+            deltas = ap (λ (y : placed.Entry). some (y .deltas)) is ∙ ds;
+            there = same .there x t q;
+          };
+    }
 
 pub none-inside : (s : List ℕ) (at : ℕ) → EntryInside s at entry-answer.Missing
 none-inside s at = record { here = λ x t q. absurd-numbers (cc) }
 
-pub next-inside : (s : List ℕ) (at : ℕ) (e : placed.Entry) (next : ℕ) → EntryHere s at e → NextInside s at (next-answer.Entry e next)
-next-inside s at e next h = record { here = λ x n q. let same : e ≡ x = cc in subst (EntryHere s at) same h }
+pub next-inside : (s : List ℕ) (at : ℕ) (e : placed.Entry) (n next : ℕ) → EntryHere s at e → ((x : Entry) → entryOf s e ≡ some x → n ≡ blocks x)
+    → NextInside s at (next-answer.Entry e n next)
+next-inside s at e n next h counts =
+    record {
+      here = λ x k m q. let same : e ≡ x = cc in subst (EntryHere s at) same h;
+      blocks = λ x k m q y is. let same : e ≡ x = cc in let as-many : n ≡ k = cc in sym as-many ∙ counts y (rw same is);
+    }
 
 pub no-next : (s : List ℕ) (at : ℕ) → NextInside s at next-answer.Missing
-no-next s at = record { here = λ x n q. absurd-numbers (cc) }
+no-next s at = record { here = λ x k m q. absurd-numbers (cc); blocks = λ x k m q y is. absurd-numbers (cc) }
 
 -- ---- the entry alone, by what is told of it
 
@@ -290,10 +325,40 @@ entries tell same none = refl
 
 entry-of-told : (m : List ℕ) → over (λ (t : Told). t .entry) (entryTold m) ≡ entryAt byteView m
 unfolding entryTold toldOf
-entry-of-told m = entries (λ x. toldOf x (entryRepeats byteView m)) (λ x. refl) (entryAt byteView m)
+entry-of-told m = entries (λ x. toldOf x (entryRepeats byteView m) (sizeOf (passOver m))) (λ x. refl) (entryAt byteView m)
 
 pub told-entry : (s m : List ℕ) (e : placed.Entry) (t : Tests) → toldIn s (entry-answer.Entry e t) ≡ entryTold m → entryOf s e ≡ entryAt byteView m
 told-entry s m e t h = sym (entries (λ x. told x t) (λ x. refl) (entryOf s e)) ∙ ap (over (λ (u : Told). u .entry)) h ∙ entry-of-told m
 
 pub told-none : (m : List ℕ) → none ≡ entryTold m → entryAt byteView m ≡ none
 told-none m h = sym (entry-of-told m) ∙ ap (over (λ (u : Told). u .entry)) (sym h)
+
+-- its tests, of an entry that was told
+pub tests-are : (s m : List ℕ) (e : placed.Entry) (t : Tests) (x : Entry) → toldIn s (entry-answer.Entry e t) ≡ entryTold m → entryAt byteView m ≡ some x
+    → t ≡ toldOf x (entryRepeats byteView m) (sizeOf (passOver m)) .tests
+unfolding entryTold
+tests-are s m e t x h i = go (entryOf s e) (rw i at h)
+  where
+    go : (o : Option Entry) → over (λ y. told y t) o ≡ some (toldOf x (entryRepeats byteView m) (sizeOf (passOver m)))
+        → t ≡ toldOf x (entryRepeats byteView m) (sizeOf (passOver m)) .tests
+    go none f = absurd-numbers (cc)
+    go (some y) f =
+        let same : told y t ≡ toldOf x (entryRepeats byteView m) (sizeOf (passOver m)) = cc in
+        ap (λ (z : Told). z .tests) same
+
+-- how many bytes it has, how many blocks, and whether it is counted
+pub record TestsAre (m : List ℕ) (t : Tests) (x : Entry) : Type 0 where
+  pub size : t .size ≡ sizeOf (passOver m)
+  pub blocks : t .blocks ≡ blocks x
+  pub counted : t .counted ≡ isCounted x
+
+pub tests-tell : (s m : List ℕ) (e : placed.Entry) (t : Tests) (x : Entry) → toldIn s (entry-answer.Entry e t) ≡ entryTold m → entryOf s e ≡ some x
+    → TestsAre m t x
+unfolding toldOf
+tests-tell s m e t x h q =
+    let same = tests-are s m e t x h (sym (told-entry s m e t h) ∙ q) in
+    record {
+      size = ap (λ (y : Tests). y .size) same;
+      blocks = ap (λ (y : Tests). y .blocks) same;
+      counted = ap (λ (y : Tests). y .counted) same;
+    }

@@ -7,12 +7,13 @@ use native.Mathlib.Omega.{arith}
 use lib.ListN.{getD}
 use Rattle.slices.specs.Logic.{or-false, or-assoc}
 use Rattle.endian.specs.Numbers.{little, big}
-use Rattle.msgpack.specs.Items.{WholeItem}
+use Rattle.msgpack.specs.Items.{passOver, WholeItem}
 use Rattle.msgpack.specs.Lookup.{broken, lastValue}
 use Rattle.msgpack.specs.Pairs.{codeOf, position, placeTold, PairsRead}
 use Rattle.msgpack.specs.PairLaws.{letter-place, letter-repeats, no-letter}
-use Rattle.msgpack.specs.Views.{repeats, byteView}
+use Rattle.msgpack.specs.Views.{sizeOf, repeats, byteView}
 use Rattle.msgpack.specs.declared.Pairs.{Pairs}
+use Rattle.primary.specs.Answers.{besideBlock}
 use Rattle.pack_list.specs.Lists.{entriesKey, packKey, startKey, lengthKey, listKeys, entryKeys, rangeKeys}
 use Rattle.pack_list.specs.Answers.{EntryAt}
 
@@ -72,9 +73,10 @@ module _ (s : List ℕ) (r : Pairs) (read : PairsRead s entryCodes r) (w : Whole
       )
       (simp (or-assoc, or-false) refl)
 
-  pub entry-places : r .map ≡ true
+  pub entry-places : (size : ℕ) → sizeOf (passOver s) ≡ size → r .map ≡ true
       → EntryAt s
       (record {
+        size = size;
         pack = getD (r .places) 0 0;
         source = getD (r .places) 1 0;
         stored = getD (r .places) 2 0;
@@ -83,7 +85,8 @@ module _ (s : List ℕ) (r : Pairs) (read : PairsRead s entryCodes r) (w : Whole
         repeated = anyRepeated;
       })
   unfolding position codeOf big little
-  entry-places m = record {
+  entry-places size sized m = record {
+    size = sized;
     pack = letter-place s entryCodes r read (w .size) (w .is) 0x70 0 (omega arith) (omega arith) refl m;
     source = letter-place s entryCodes r read (w .size) (w .is) 0x6f 1 (omega arith) (omega arith) refl m;
     stored = letter-place s entryCodes r read (w .size) (w .is) 0x74 2 (omega arith) (omega arith) refl m;
@@ -99,17 +102,17 @@ module _ (s : List ℕ) (r : Pairs) (read : PairsRead s entryCodes r) (w : Whole
 -- ---- a list
 
 abbrev pub listCodes : List ℕ
-listCodes = 0x150 ∷ 0 ∷ 0 ∷ 0 ∷ 0 ∷ 0 ∷ 0 ∷ 0 ∷ []
+listCodes = besideBlock 0x150
 
 module _ (s : List ℕ) (r : Pairs) (read : PairsRead s listCodes r) (w : WholeItem s) where
-  pub entries-place : r .map ≡ true → lastValue entriesKey s ≡ placeTold (getD (r .places) 0 0)
+  pub entries-place : r .map ≡ true → lastValue entriesKey s ≡ placeTold (getD (r .places) 1 0)
   unfolding position codeOf big little
-  entries-place = letter-place s listCodes r read (w .size) (w .is) 0x50 0 (omega arith) (omega arith) refl
+  entries-place = letter-place s listCodes r read (w .size) (w .is) 0x50 1 (omega arith) (omega arith) refl
 
-  pub list-repeats : repeats byteView listKeys s ≡ getD (r .repeated) 0 false
+  pub list-repeats : repeats byteView listKeys s ≡ getD (r .repeated) 1 false
   unfolding repeats position codeOf big little
-  list-repeats = rw (letter-repeats s listCodes r read (w .size) (w .is) 0x50 0 (omega arith) (omega arith) refl, or-false)
+  list-repeats = rw (letter-repeats s listCodes r read (w .size) (w .is) 0x50 1 (omega arith) (omega arith) refl, or-false)
 
   pub no-list-map : r .map ≡ false → lastValue entriesKey s ≡ broken
   unfolding position codeOf big little
-  no-list-map = no-letter s listCodes r read (w .size) (w .is) 0x50 0 (omega arith) (omega arith) refl
+  no-list-map = no-letter s listCodes r read (w .size) (w .is) 0x50 1 (omega arith) (omega arith) refl

@@ -1,5 +1,4 @@
 pub mod Summing
-pub mod Finding
 pub mod Surveys
 pub mod Listing
 pub mod Keys

@@ -1,16 +1,14 @@
 -- The list, from what its parts gave: the identifier, the entries that stand under their key, and what the survey of them told.
-use Prim.Native.Nat.{ℕ, _≤_, _<_}
+use Prim.Native.Nat.{ℕ, _≤_}
 use mathlib.Core.Bool.{Bool, true, false, cond, _||_, not}
 use mathlib.Core.List.{List, []}
 use mathlib.Core.Option.{Option, none, some}
 use mathlib.Core.Path.{_≡_, refl, sym, ap, subst, _∙_}
 use native.Mathlib.Omega.{arith}
 use borrow.Author.Tests.{le-leb}
-use lib.ListN.{length, drop, length-drop}
+use lib.ListN.{length, drop}
 use Rattle.slices.specs.Logic.{absurd-numbers}
 use Rattle.refusals.specs.Answers.{refused, result}
-use Rattle.msgpack.specs.Items.{depthAllowed}
-use Rattle.msgpack.specs.PassingLaws.{bounded}
 use Rattle.msgpack.specs.Lookup.{ValuePlace, found, missing, broken, lastValue, atPlace, ifThere}
 use Rattle.msgpack.specs.Pairs.{placeTold}
 use Rattle.msgpack.specs.Views.{repeats, frontOf, byteView}
@@ -22,7 +20,7 @@ use Rattle.primary.specs.declared.BlockRead.{BlockRead}
 use Rattle.primary.specs.declared.BlockRead.the-variants as identifier-answer
 use Rattle.primary.specs.declared.Fault.the-variants as identifier-fault
 use Rattle.pack_list.specs.Lists.{entriesKey, listKeys, Entry, eachOf, listAt, entryAt, entriesUnder, anyOf, itemsRepeat, entriesRepeat, listRepeats, allOf, isFilled, packListBy, packList}
-use Rattle.pack_list.specs.Blocks.{stride, find}
+use Rattle.pack_list.specs.Blocks.{stride}
 use Rattle.pack_list.specs.Laws.{combined, list-together}
 use Rattle.pack_list.specs.declared.Fault.{Fault}
 use Rattle.pack_list.specs.declared.Fault.the-variants as fault
@@ -30,14 +28,12 @@ use Rattle.pack_list.specs.declared.Numbers.{Numbers}
 use Rattle.pack_list.specs.declared.Survey.{Survey}
 use Rattle.pack_list.specs.declared.Holder.{Holder}
 use Rattle.pack_list.specs.declared.Holder.the-variants as holder-answer
-use Rattle.pack_list.specs.declared.Entry as placed
 use Rattle.pack_list.specs.declared.PackList as listed
 use Rattle.pack_list.specs.declared.ListRead.{ListRead}
 use Rattle.pack_list.specs.declared.ListRead.the-variants as list-answer
-use Rattle.pack_list.specs.declared.Found as found
 use Rattle.pack_list.specs.declared.Reading.the-variants as reading-answer
-use Rattle.pack_list.specs.Answers.{numberOf, itemsIn, WholeItems, noEntry, holderOf, HolderInside, orNone, entryItems, entriesIn, listBy, ListInside, readFor, ReadFor, foundWith, readingOf, ReadingInside, EntryHere, EntryStands, FoundInside, FoundStands, findIn}
-use Rattle.pack_list.proofs.Surveys.{Tells}
+use Rattle.pack_list.specs.Answers.{numberOf, numbersPlace, itemsIn, WholeItems, noEntry, holderOf, holderIn, HolderInside, orNone, entryItems, entriesIn, listBy, ListInside, readFor, ReadFor, readingOf, ReadingInside}
+use Rattle.pack_list.proofs.Surveys.{Tells, entryHeld}
 
 -- ---- the entries
 
@@ -86,9 +82,8 @@ module _ (s : List ℕ) (byte : ℕ) where
         reads = e;
         inside = λ l n h q. absurd-numbers (cc);
         stride = λ l n h q. absurd-numbers (cc);
-        found = λ l n h q. absurd-numbers (cc);
-        holding = λ l n k p q. absurd-numbers (cc);
-        stands = λ l n k p q. absurd-numbers (cc);
+        held = λ l n h q. absurd-numbers (cc);
+        holding = λ l n h q. absurd-numbers (cc);
       }
 
 pub not-whole : (s : List ℕ) → fills s ≡ false → refused 16 ≡ packList s
@@ -145,8 +140,13 @@ by-parts s entries n holder es q (identifier-answer.Read t) false false filled p
 by-parts s entries n holder es q (identifier-answer.Read t) false true false p f = rw (← p, ← f)
 by-parts s entries n holder es q (identifier-answer.Read t) false true true p f = rw (← p, ← f, q)
 
+-- the entry that holds the byte is the one that its item is
+held-is : (s : List ℕ) (h : Holder) → HolderInside s h → holderIn s h ≡ entryHeld (holderOf s h)
+held-is s holder-answer.None i = refl
+held-is s (holder-answer.Entry x) i = let h = i .held x refl in rw (h .is, h .item)
+
 module _ (s : List ℕ) (byte : ℕ) (identifier : BlockRead) (names : blockOf s identifier ≡ block s) (texts : BlockInside s identifier)
-    (entries : Numbers) (first : entries .first ≤ length s) (whole : WholeItems (entries .count) (drop (entries .first) s))
+    (entries : Numbers) (placed : some entries ≡ numbersPlace entriesKey s 0) (first : entries .first ≤ length s) (whole : WholeItems (entries .count) (drop (entries .first) s))
     (there : entriesUnder byteView s ≡ eachOf (entryAt byteView) (itemsIn s entries)) (listed : itemsIn s entries ≡ entryItems s)
     (inside : Survey) (holder : Holder) (t : Tells byte 0 noEntry none (itemsIn s entries) inside (holderOf s holder)) (holds : HolderInside s holder)
     (repeated : Bool) (repeats : listRepeats byteView s ≡ repeated) where
@@ -161,7 +161,6 @@ module _ (s : List ℕ) (byte : ℕ) (identifier : BlockRead) (names : blockOf s
   strided = t .strided ∙ rw (le-leb 0 (stride (t .entries)) (omega arith))
 
   pub list-for : (r : ListRead) → r ≡ listBy identifier entries all holder → ReadFor s byte r
-  unfolding find
   list-for r e =
       subst (ReadFor s byte) (sym e)
       (record {
@@ -172,6 +171,7 @@ module _ (s : List ℕ) (byte : ℕ) (identifier : BlockRead) (names : blockOf s
             rw (i .list)
             (record {
               identifier = texts .identifier (i .texts) (i .read);
+              place = placed;
               first = first;
               whole = whole;
               items = listed;
@@ -180,28 +180,25 @@ module _ (s : List ℕ) (byte : ℕ) (identifier : BlockRead) (names : blockOf s
         stride = λ l n h q.
             let i = is-listed identifier entries all holder l n h q in
             rw (i .list, entries-are) (i .strided ∙ strided);
-        found = λ l n h q.
+        held = λ l n h q.
             let i = is-listed identifier entries all holder l n h q in
-            rw (i .list, i .held, i .strided, strided, entries-are) (t .first refl (stride (t .entries)));
-        holding = λ l n k p q.
-            let i = is-listed identifier entries all holder l n (holder-answer.Entry k p) q in
-            let among = t .holding refl k (drop p s) (ap (holderOf s) (sym (i .held))) in
-            record {
-              whole = holds .whole k p (sym (i .held));
-              entry = among .entry;
-              is = among .is;
-              filled = among .filled (sym (t .filled) ∙ i .filled);
-              holds = among .holds;
-            };
-        stands = λ l n k p q.
-            let i = is-listed identifier entries all holder l n (holder-answer.Entry k p) q in
-            let among = t .holding refl k (drop p s) (ap (holderOf s) (sym (i .held))) in
+            rw (i .list, i .held, entries-are) (held-is s holder holds ∙ sym (t .first refl));
+        holding = λ l n h q.
+            let i = is-listed identifier entries all holder l n (holder-answer.Entry h) q in
+            let here = holds .held h (sym (i .held)) in
+            let among = t .holding refl (h .number) (drop (h .at) s) (ap (holderOf s) (sym (i .held))) in
+            let same : among .entry ≡ here .entry = cc (among .is, here .item) in
             let counted = among .counted in
-            let same : among .index ≡ k = omega arith in
-            among .item ∙ rw (same, listed);
+            let index : among .index ≡ h .number = omega arith in
+            record {
+              here = here;
+              filled = rw (← same) (among .filled (sym (t .filled) ∙ i .filled));
+              holds = rw (← same) (among .holds);
+              stands = among .item ∙ rw (index, listed);
+            };
       })
 
--- ---- what is read, and what is found
+-- ---- what is read
 
 module _ (s : List ℕ) (byte : ℕ) (r : ListRead) (read : ReadFor s byte r) where
   pub reading-list : (l : listed.PackList) (n : ℕ) (h : Holder) → r ≡ list-answer.List l n h
@@ -214,23 +211,3 @@ module _ (s : List ℕ) (byte : ℕ) (r : ListRead) (read : ReadFor s byte r) wh
   pub reading-refused : (f : Fault) → r ≡ list-answer.Fault f
       → (readingOf s (reading-answer.Refused f) ≡ packList s) × ReadingInside s (reading-answer.Refused f)
   reading-refused f e = (sym (ap (readFor s) e) ∙ read .reads, record { list = λ x q. absurd-numbers (cc) })
-
-  pub find-list : (l : listed.PackList) (n : ℕ) (h : Holder) → r ≡ list-answer.List l n h → result (foundWith n byte (holderOf s h)) ≡ findIn s byte
-  unfolding findIn
-  find-list l n h e = rw (← read .reads, e) (ap result (sym (read .found l n h e)))
-
-  -- the entry found is the item of its number
-  pub found-stands : (l : listed.PackList) (n number at : ℕ) → r ≡ list-answer.List l n (holder-answer.Entry number at)
-      → (f : found.Found) → FoundInside s number at f → FoundStands s f
-  found-stands l n number at e f i =
-      let w = read .holding l n number at e .whole in
-      let taken = bounded depthAllowed (drop at s) (w .size) (w .is) in
-      let within : at < length s = omega (arith, taken .some-byte, taken .within, length-drop at s) in
-      let item = read .stands l n number at e in
-      let stands : (k : ℕ) (x : placed.Entry) → (k ≡ number) × EntryHere s at x → EntryStands s k x
-      = λ k x h. record { at = at; within = within; item = rw (h .0) item; here = h .1 } in
-      record { entry = λ k x q. stands k x (i .entry k x q); block = λ k x b q. stands k x (i .block k x b q) }
-
-  pub find-refused : (f : Fault) → r ≡ list-answer.Fault f → refused (numberOf f) ≡ findIn s byte
-  unfolding findIn
-  find-refused f e = rw (← read .reads, e)

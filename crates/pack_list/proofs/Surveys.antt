@@ -8,41 +8,47 @@ use native.Mathlib.Numerals.{add-one}
 use native.Mathlib.Omega.{arith}
 use borrow.Author.Tests.{le-leb, lt-leb, leb-true, leb-false}
 use lib.Dec.{leb}
-use lib.ListN.{drop, getD}
+use lib.ListN.{length, drop, getD, length-drop}
 use lib.Seq.{drop-drop}
 use Rattle.slices.specs.Logic.{absurd-numbers, both, or-false, or-assoc}
-use Rattle.msgpack.specs.Items.{whole, passOver, WholeItem}
+use Rattle.msgpack.specs.Items.{whole, depthAllowed, passOver, WholeItem}
+use Rattle.msgpack.specs.PassingLaws.{bounded}
 use Rattle.msgpack.specs.Lookup.{ifThere, over}
 use Rattle.msgpack.specs.Views.{sizeOf, itemsFrom, byteView}
 use Rattle.identifier.specs.Ulid.{isUlid}
 use Rattle.pack_list.specs.Lists.{Entry, eachOf, entryAt, anyOf, entryRepeats, allOf, isFilled}
-use Rattle.pack_list.specs.Blocks.{isCounted, strideFor, larger, stride, foundBy, blockIn, isIn, holds, findFrom}
+use Rattle.pack_list.specs.Blocks.{isCounted, strideFor, larger, stride, isIn, holds, holderFrom}
 use Rattle.pack_list.specs.declared.Numbers.{Numbers}
 use Rattle.pack_list.specs.declared.Entry as placed
 use Rattle.pack_list.specs.declared.Tests.{Tests}
 use Rattle.pack_list.specs.declared.EntryRead.the-variants as entry-answer
 use Rattle.pack_list.specs.declared.Survey.{Survey}
+use Rattle.pack_list.specs.declared.Held.{Held}
 use Rattle.pack_list.specs.declared.Holder.{Holder}
 use Rattle.pack_list.specs.declared.Holder.the-variants as holder-answer
 use Rattle.pack_list.specs.declared.Surveyed.the-variants as surveyed-answer
-use Rattle.pack_list.specs.Answers.{itemsIn, WholeItems, entryOf, toldOf, toldIn, entryTold, withTests, holderWith, holderOf, orElse, heldBy, surveyFrom, noEntry, surveyed, surveyOf, HolderInside, SurveyedInside, foundWith}
+use Rattle.pack_list.specs.Answers.{itemsIn, WholeItems, entryOf, toldOf, toldIn, entryTold, EntryHere, withTests, holderWith, holderOf, orElse, heldBy, surveyFrom, noEntry, surveyed, surveyOf, HeldHere, HolderInside, SurveyedInside}
 use Rattle.pack_list.specs.Walks.{items-on, first-whole, others-whole, entry-is}
+use Rattle.pack_list.proofs.Entries.{told-entry, tests-tell}
 
 -- ---- the survey of all entries
 
--- with one entry more, which stands at a place
-module _ (s : List ℕ) (k at : ℕ) where
+-- an entry of a number that stands at a place, with what is told of it
+abbrev pub heldHere : (number at : ℕ) → placed.Entry → Tests → Held
+heldHere number at e t = record { number = number; at = at; entry = e; blocks = t .blocks; counted = t .counted }
+
+-- with one entry more
+module _ (s : List ℕ) (h : Held) where
   holder-more : (holder : Holder) (held : Bool)
-      → holderOf s (holderWith holder held k at) ≡ orElse (holderOf s holder) (cond held (some (k, drop at s)) none)
+      → holderOf s (holderWith holder held h) ≡ orElse (holderOf s holder) (cond held (some (h .number, drop (h .at) s)) none)
   holder-more holder-answer.None true = refl
   holder-more holder-answer.None false = refl
-  holder-more (holder-answer.Entry number place) held = refl
+  holder-more (holder-answer.Entry x) held = refl
 
-  inside-more : (holder : Holder) (held : Bool) → HolderInside s holder → WholeItem (drop at s) → HolderInside s (holderWith holder held k at)
-  inside-more holder-answer.None true i w =
-      record { whole = λ number place e. let same : at ≡ place = cc in subst (λ p. WholeItem (drop p s)) same w }
+  inside-more : (holder : Holder) (held : Bool) → HolderInside s holder → HeldHere s h → HolderInside s (holderWith holder held h)
+  inside-more holder-answer.None true i w = record { held = λ x e. let same : h ≡ x = cc in subst (HeldHere s) same w }
   inside-more holder-answer.None false i w = i
-  inside-more (holder-answer.Entry number place) held i w = i
+  inside-more (holder-answer.Entry x) held i w = i
 
 module _ (s : List ℕ) (n : Numbers) (byte : ℕ) where
   pub record SurveyedTo (at k : ℕ) (all : Survey) (holder : Holder) : Type 0 where
@@ -59,7 +65,7 @@ module _ (s : List ℕ) (n : Numbers) (byte : ℕ) where
         most = omega arith;
         rest = rw same;
         whole = rw same w;
-        inside = record { whole = λ number place e. absurd-numbers (cc) };
+        inside = record { held = λ x e. absurd-numbers (cc) };
       }
 
   module _ (at k : ℕ) (all : Survey) (holder : Holder) (t : SurveyedTo at k all holder) where
@@ -83,27 +89,53 @@ module _ (s : List ℕ) (n : Numbers) (byte : ℕ) where
         record { holder = λ x y z. absurd-numbers (cc) },
       )
 
-      pub one-surveyed : (e : placed.Entry) (x : Tests) → toldIn s (entry-answer.Entry e x) ≡ entryTold (drop at s) → (entryOf s e ≡ none → ⊥)
-          → (noted : Survey) → noted ≡ withTests all x → (held : Holder) → held ≡ holderWith holder (isIn (e .source) byte) k at
-          → (next : ℕ) → next ≡ at + sizeOf (passOver (drop at s)) → SurveyedTo next (k + 1) noted held
+      -- the item ends within the part
+      pub entry-ends : (e : placed.Entry) (x : Tests) → toldIn s (entry-answer.Entry e x) ≡ entryTold (drop at s) → (entryOf s e ≡ none → ⊥)
+          → at + x .size ≤ length s
+      entry-ends e x told there = go (entryOf s e) refl
+        where
+          go : (o : Option Entry) → entryOf s e ≡ o → at + x .size ≤ length s
+          go none q = absurd (there q)
+          go (some y) q =
+              let w = entry-whole in
+              let taken = bounded depthAllowed (drop at s) (w .size) (w .is) in
+              let size : x .size ≡ w .size = tests-tell s (drop at s) e x y told q .size ∙ ap sizeOf (w .is) in
+              omega (arith, size, taken .some-byte, taken .within, length-drop at s)
+
+      pub one-surveyed : (e : placed.Entry) (x : Tests) → toldIn s (entry-answer.Entry e x) ≡ entryTold (drop at s) → EntryHere s at e
+          → (noted : Survey) → noted ≡ withTests all x
+          → (held : Holder) → held ≡ holderWith holder (isIn (e .source) byte) (heldHere k at e x)
+          → (next : ℕ) → next ≡ at + x .size → SurveyedTo next (k + 1) noted held
       unfolding surveyFrom holds
-      one-surveyed e x told there noted a held b next c = go (entryOf s e) refl
+      one-surveyed e x told here noted a held b next c = go (entryOf s e) refl
         where
           left : n .count - k - 1 ≡ n .count - (k + 1)
           left = omega arith
 
           go : (o : Option Entry) → entryOf s e ≡ o → SurveyedTo next (k + 1) noted held
-          go none q = absurd (there q)
+          go none q = absurd (here .there q)
           go (some y) q =
               let tells : entryTold (drop at s) ≡ some (record { entry = y; tests = x }) = sym (rw q at told) in
               let source = entry-is s e y q .source in
+              let tests = tests-tell s (drop at s) e x y told q in
+              let behind : next ≡ at + sizeOf (passOver (drop at s)) = c ∙ ap (λ (m : ℕ). at + m) (tests .size) in
               let holding : holderOf s held ≡ orElse (holderOf s holder) (heldBy byte k (drop at s) y)
-              = ap (holderOf s) b ∙ holder-more s k at holder (isIn (e .source) byte) ∙ rw source in
+              = ap (holderOf s) b ∙ holder-more s (heldHere k at e x) holder (isIn (e .source) byte) ∙ rw source in
+              let is-held : HeldHere s (heldHere k at e x) = record {
+                whole = entry-whole;
+                entry = y;
+                is = q;
+                item = sym (told-entry s (drop at s) e x told) ∙ q;
+                as-many = tests .blocks;
+                counted = tests .counted;
+                here = here;
+              } in
               record {
                 most = omega arith;
-                rest = t .rest ∙ rw (items-on s at (n .count - k) next (omega arith) c, tells, left, a, holding, add-one k);
-                whole = rw (← left, c, ← drop-drop (sizeOf (passOver (drop at s))) at s) (others-whole (n .count - k) (drop at s) (omega arith) (t .whole));
-                inside = rw b (inside-more s k at holder (isIn (e .source) byte) (t .inside) entry-whole);
+                rest = t .rest ∙ rw (items-on s at (n .count - k) next (omega arith) behind, tells, left, a, holding, add-one k);
+                whole = rw (← left, behind, ← drop-drop (sizeOf (passOver (drop at s))) at s)
+                    (others-whole (n .count - k) (drop at s) (omega arith) (t .whole));
+                inside = rw b (inside-more s (heldHere k at e x) holder (isIn (e .source) byte) (t .inside) is-held);
               }
 
 -- ---- what it tells
@@ -145,6 +177,11 @@ pub record HeldAmong (byte number : ℕ) (items : List (List ℕ)) (entries : Li
   pub holds : holds entry byte ≡ true
   pub filled : allOf isFilled entries ≡ true → isFilled entry ≡ true
 
+-- the entry that an item is
+abbrev pub entryHeld : Option (ℕ × List ℕ) → Option (ℕ × Entry)
+entryHeld none = none
+entryHeld (some h) = over (λ e. (h .0, e)) (entryAt byteView (h .1))
+
 module _ (byte : ℕ) where
   -- by the entries that these items are, after those that were surveyed
   pub record Tells (number : ℕ) (before : Survey) (holder : Option (ℕ × List ℕ)) (items : List (List ℕ)) (all : Survey)
@@ -156,12 +193,12 @@ module _ (byte : ℕ) where
     pub filled : all .filled ≡ (before .filled && allOf isFilled entries)
     pub strided : all .stride ≡ larger (before .stride) (stride entries)
     pub kept : (h : ℕ × List ℕ) → holder ≡ some h → held ≡ some h
-    pub first : holder ≡ none → (s : ℕ) → findFrom s byte number entries ≡ foundWith s byte held
+    pub first : holder ≡ none → holderFrom byte number entries ≡ entryHeld held
     pub holding : holder ≡ none → (k : ℕ) (m : List ℕ) → held ≡ some (k, m) → HeldAmong byte number items entries k m
 
   module _ (number : ℕ) (before : Survey) (holder : Option (ℕ × List ℕ)) (m : List ℕ) (ms : List (List ℕ)) (all : Survey) (held : Option (ℕ × List ℕ))
       (y : Entry) (is : entryAt byteView m ≡ some y)
-      (r : Tells (suc number) (withTests before (toldOf y (entryRepeats byteView m) .tests)) (orElse holder (heldBy byte number m y)) ms all held) where
+      (r : Tells (suc number) (withTests before (toldOf y (entryRepeats byteView m) (sizeOf (passOver m)) .tests)) (orElse holder (heldBy byte number m y)) ms all held) where
     -- the first of them holds the byte, and is kept
     first-held : holder ≡ none → holds y byte ≡ true → held ≡ some (number, m)
     first-held q h = r .kept (number, m) (rw (q, h))
@@ -170,7 +207,7 @@ module _ (byte : ℕ) where
     first-not q h = rw (q, h)
 
     one-tells : Tells number before holder (m ∷ ms) all held
-    unfolding eachOf anyOf allOf stride findFrom withTests toldOf
+    unfolding eachOf anyOf allOf stride holderFrom withTests toldOf
     one-tells =
         record {
           entries = y ∷ r .entries;
@@ -180,14 +217,14 @@ module _ (byte : ℕ) where
           filled = r .filled ∙ and-assoc (before .filled) (isFilled y) (allOf isFilled (r .entries));
           strided = r .strided ∙ larger-assoc (before .stride) (cond (isCounted y) (strideFor y) 0) (stride (r .entries));
           kept = λ h q. r .kept h (rw q);
-          first = λ q s. found-first q s (holds y byte) refl;
+          first = λ q. found-first q (holds y byte) refl;
           holding = λ q k x z. held-first q k x z (holds y byte) refl;
         }
       where
-        found-first : holder ≡ none → (s : ℕ) (t : Bool) → holds y byte ≡ t
-            → cond t (foundBy number y (blockIn s y byte)) (findFrom s byte (suc number) (r .entries)) ≡ foundWith s byte held
-        found-first q s true h = rw (first-held q h, is)
-        found-first q s false h = r .first (first-not q h) s
+        found-first : holder ≡ none → (t : Bool) → holds y byte ≡ t
+            → cond t (some (number, y)) (holderFrom byte (suc number) (r .entries)) ≡ entryHeld held
+        found-first q true h = rw (first-held q h, is)
+        found-first q false h = r .first (first-not q h)
 
         held-first : holder ≡ none → (k : ℕ) (x : List ℕ) → held ≡ some (k, x) → (t : Bool) → holds y byte ≡ t
             → HeldAmong byte number (m ∷ ms) (y ∷ r .entries) k x
@@ -219,7 +256,7 @@ module _ (byte : ℕ) where
 
   survey-tells : (number : ℕ) (before : Survey) (holder : Option (ℕ × List ℕ)) (items : List (List ℕ)) (all : Survey) (held : Option (ℕ × List ℕ))
       → surveyFrom byte number before holder items ≡ some (all, held) → Tells number before holder items all held
-  unfolding surveyFrom eachOf anyOf allOf stride findFrom entryTold toldOf
+  unfolding surveyFrom eachOf anyOf allOf stride holderFrom entryTold toldOf
   survey-tells number before holder [] all held e =
       let same = some-pair before all holder held e in
       subst (λ a. Tells number before holder [] a held) (same .0)
@@ -232,7 +269,7 @@ module _ (byte : ℕ) where
         filled = sym (and-true (before .filled));
         strided = larger-zero (before .stride);
         kept = λ h q. q;
-        first = λ q s. rw q;
+        first = λ q. rw q;
         holding = λ q k m z. absurd-numbers (cc);
       }))
   survey-tells number before holder (m ∷ ms) all held e =

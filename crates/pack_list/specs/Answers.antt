@@ -1,5 +1,5 @@
 -- What the answers of the code say: entries by the contents at the places told, and the paper's numbers.
-use Prim.Native.Nat.{ℕ, suc, _+_, _≤_, _<_}
+use Prim.Native.Nat.{ℕ, suc, _+_, _-_, _≤_, _<_}
 use mathlib.Core.Bool.{Bool, true, false, cond, _&&_, _||_, not}
 use mathlib.Core.List.{List, [], _∷_, _++_, map}
 use mathlib.Core.Option.{Option, none, some}
@@ -11,10 +11,10 @@ use Rattle.slices.specs.declared.Place.{Place}
 use Rattle.refusals.specs.Answers.{Answer, refused, result}
 use Rattle.identifier.specs.Ulid.{isUlid}
 use Rattle.msgpack.specs.Items.{Passage, whole, cut, tooDeep, passItems, passItem, passOver, WholeItem}
-use Rattle.msgpack.specs.Readers.{Int, Part, readInteger, readText}
-use Rattle.msgpack.specs.Lookup.{lastValue, atPlace, ifThere, over}
+use Rattle.msgpack.specs.Readers.{Int, Counted, readInteger, readText, readArray}
+use Rattle.msgpack.specs.Lookup.{ValuePlace, lastValue, atPlace, ifThere, over}
 use Rattle.msgpack.specs.Pairs.{insideAllowed, placeTold}
-use Rattle.msgpack.specs.Views.{repeats, itemsFrom, byteView}
+use Rattle.msgpack.specs.Views.{sizeOf, repeats, itemsFrom, byteView}
 use Rattle.value.specs.Fields.{readNatural}
 use Rattle.primary.specs.Answers as primary
 use Rattle.primary.specs.declared.BlockRead.{BlockRead}
@@ -23,7 +23,7 @@ use Rattle.primary.specs.declared.Fault.{Fault as IdentifierFault}
 use Rattle.primary.specs.declared.Fault.the-variants as identifier-fault
 use Rattle.primary.specs.Answers.{textsIn, placedAt, AllInside}
 use Rattle.pack_list.specs.Lists.{entriesKey, packKey, sourceKey, storedKey, lengthsKey, deltasKey, entryKeys, rangeKeys, Entry, PackList, eachOf, rangeAt, entryAt, entryRepeats, sum, greatest, isFilled, packList}
-use Rattle.pack_list.specs.Blocks.{gain, loss, Found, nowhere, inEntry, inBlock, foundBy, isCounted, strideFor, stride, larger, moved, sourcesFrom, storedLengths, blockFrom, blockIn, holds, find}
+use Rattle.pack_list.specs.Blocks.{gain, loss, blocks, isCounted, strideFor, stride, larger, holds, holderFrom}
 use Rattle.pack_list.specs.declared.Fault.{Fault}
 use Rattle.pack_list.specs.declared.Fault.the-variants as fault
 use Rattle.pack_list.specs.declared.Range.{Range}
@@ -43,6 +43,7 @@ use Rattle.pack_list.specs.declared.Tests.{Tests}
 use Rattle.pack_list.specs.declared.EntryRead.{EntryRead}
 use Rattle.pack_list.specs.declared.EntryRead.the-variants as entry-answer
 use Rattle.pack_list.specs.declared.Survey.{Survey}
+use Rattle.pack_list.specs.declared.Held.{Held}
 use Rattle.pack_list.specs.declared.Holder.{Holder}
 use Rattle.pack_list.specs.declared.Holder.the-variants as holder-answer
 use Rattle.pack_list.specs.declared.Surveyed.{Surveyed}
@@ -54,13 +55,6 @@ use Rattle.pack_list.specs.declared.Reading.{Reading}
 use Rattle.pack_list.specs.declared.Reading.the-variants as reading-answer
 use Rattle.pack_list.specs.declared.NextEntry.{NextEntry}
 use Rattle.pack_list.specs.declared.NextEntry.the-variants as next-answer
-use Rattle.pack_list.specs.declared.Block.{Block}
-use Rattle.pack_list.specs.declared.BlockFound.{BlockFound}
-use Rattle.pack_list.specs.declared.BlockFound.the-variants as block-answer
-use Rattle.pack_list.specs.declared.Length.{Length}
-use Rattle.pack_list.specs.declared.Length.the-variants as length-answer
-use Rattle.pack_list.specs.declared.Found as found
-use Rattle.pack_list.specs.declared.Found.the-variants as found-answer
 
 -- the number of the refusal
 abbrev pub numberOf : Fault → ℕ
@@ -91,6 +85,19 @@ abbrev pub numbersOf : List ℕ → NumbersRead → Option (List (List ℕ))
 numbersOf s (numbers-answer.Numbers n) = some (itemsIn s n)
 numbersOf s numbers-answer.Missing = none
 
+abbrev pub numbersAt : NumbersRead → Option Numbers
+numbersAt (numbers-answer.Numbers n) = some n
+numbersAt numbers-answer.Missing = none
+
+-- those of an array whose item stands at a place: how many, and where the first of them does
+abbrev pub countedAt : ℕ → Option Counted → Option Numbers
+countedAt at (some c) = some (record { count = c .count; first = at + c .size })
+countedAt at none = none
+
+-- by the place told of a key in the map at a place; an array that is missing is empty, and told at the map's own
+abbrev pub numbersBy : List ℕ → ℕ → ValuePlace → Option Numbers
+numbersBy s at u = atPlace (some (record { count = 0; first = at })) (λ p. countedAt (at + p) (readArray (drop (at + p) s))) u
+
 -- so many whole items stand at the front
 pub record WholeItems (count : ℕ) (s : List ℕ) : Type 0 where
   pub size : ℕ
@@ -100,8 +107,12 @@ pub record NumbersInside (s : List ℕ) (r : NumbersRead) : Type 0 where
   pub first : (n : Numbers) → r ≡ numbers-answer.Numbers n → n .first ≤ length s
   pub whole : (n : Numbers) → r ≡ numbers-answer.Numbers n → WholeItems (n .count) (drop (n .first) s)
 
-abbrev pub lengthsOf : Lengths → Option Bool
-lengthsOf (lengths-answer.Natural within) = some within
+-- whether lengths are within a total, of which this much is left, if those before them are; and what they leave of it
+unfoldable pub withinFrom : Bool → ℕ → List ℕ → Bool × ℕ
+withinFrom within left ls = (within && leb (sum ls) left, left - sum ls)
+
+abbrev pub lengthsOf : Lengths → Option (Bool × ℕ)
+lengthsOf (lengths-answer.Natural within rest) = some (within, rest)
 lengthsOf lengths-answer.Missing = none
 
 -- ---- deltas
@@ -140,14 +151,16 @@ pub record Told : Type 0 where
   pub entry : Entry
   pub tests : Tests
 
-unfoldable pub toldOf : Entry → Bool → Told
-toldOf e repeated =
+unfoldable pub toldOf : Entry → Bool → ℕ → Told
+toldOf e repeated size =
     record {
       entry = e;
       tests = record {
+        size = size;
         repeated = repeated;
         named = isUlid (e .pack);
         filled = isFilled e;
+        blocks = blocks e;
         stride = cond (isCounted e) (strideFor e) 0;
         counted = isCounted e;
       };
@@ -159,20 +172,26 @@ toldIn s entry-answer.Missing = none
 
 -- of the item m
 unfoldable pub entryTold : List ℕ → Option Told
-entryTold m = over (λ e. toldOf e (entryRepeats byteView m)) (entryAt byteView m)
+entryTold m = over (λ e. toldOf e (entryRepeats byteView m) (sizeOf (passOver m))) (entryAt byteView m)
 
 -- where the text under the last `p` of the map at a place has its content
 unfoldable pub packPlace : List ℕ → ℕ → Option Place
 packPlace s at = atPlace none (λ p. placedAt (at + p) (readText (drop p (drop at s)))) (lastValue packKey (drop at s))
+
+-- where the array under the last such key of the map at a place has its items
+unfoldable pub numbersPlace : List ℕ → List ℕ → ℕ → Option Numbers
+numbersPlace key s at = numbersBy s at (lastValue key (drop at s))
 
 -- the places of an entry that was tested, whose lengths and deltas were read
 pub record SameEntry (s : List ℕ) (e : placed.Entry) (r : EntryRead) : Type 0 where
   pub same : (x : placed.Entry) (t : Tests) → r ≡ entry-answer.Entry x t → x ≡ e
   pub there : (x : placed.Entry) (t : Tests) → r ≡ entry-answer.Entry x t → entryOf s x ≡ none → ⊥
 
--- an entry whose item stands at a place: its pack is named there, and its lengths and deltas can be read
+-- an entry whose item stands at a place: its pack is named there, and its lengths and deltas stand there and can be read
 pub record EntryHere (s : List ℕ) (at : ℕ) (e : placed.Entry) : Type 0 where
   pub pack : some (e .pack) ≡ packPlace s at
+  pub lengths : some (e .lengths) ≡ numbersPlace lengthsKey s at
+  pub deltas : some (e .deltas) ≡ numbersPlace deltasKey s at
   pub there : entryOf s e ≡ none → ⊥
 
 pub record EntryInside (s : List ℕ) (at : ℕ) (r : EntryRead) : Type 0 where
@@ -180,6 +199,7 @@ pub record EntryInside (s : List ℕ) (at : ℕ) (r : EntryRead) : Type 0 where
 
 -- what the code knows on the way: where the values of an entry's keys stand in the map m
 pub record EntryAt (m : List ℕ) (p : EntryPlaces) : Type 0 where
+  pub size : sizeOf (passOver m) ≡ p .size
   pub pack : lastValue packKey m ≡ placeTold (p .pack)
   pub source : lastValue sourceKey m ≡ placeTold (p .source)
   pub stored : lastValue storedKey m ≡ placeTold (p .stored)
@@ -199,14 +219,14 @@ withTests all t =
       stride = larger (all .stride) (t .stride);
     }
 
-abbrev pub holderWith : Holder → Bool → ℕ → ℕ → Holder
-holderWith holder-answer.None held number place = cond held (holder-answer.Entry number place) holder-answer.None
-holderWith (holder-answer.Entry k p) held number place = holder-answer.Entry k p
+abbrev pub holderWith : Holder → Bool → Held → Holder
+holderWith holder-answer.None holds held = cond holds (holder-answer.Entry held) holder-answer.None
+holderWith (holder-answer.Entry first) holds held = holder-answer.Entry first
 
 -- the number of the first entry that holds a byte, and the item that it is
 abbrev pub holderOf : List ℕ → Holder → Option (ℕ × List ℕ)
 holderOf s holder-answer.None = none
-holderOf s (holder-answer.Entry number place) = some (number, drop place s)
+holderOf s (holder-answer.Entry h) = some (h .number, drop (h .at) s)
 
 abbrev pub orElse : {A : Type 0} → Option A → Option A → Option A
 orElse (some a) other = some a
@@ -232,9 +252,18 @@ abbrev pub surveyOf : List ℕ → Surveyed → Option (Survey × Option (ℕ ×
 surveyOf s (surveyed-answer.Entries all holder) = some (all, holderOf s holder)
 surveyOf s surveyed-answer.Not = none
 
--- the entry that holds the byte is a whole item
+-- what is told of an entry that holds the byte is so, and its item stands at the place told
+pub record HeldHere (s : List ℕ) (h : Held) : Type 0 where
+  pub whole : WholeItem (drop (h .at) s)
+  pub entry : Entry
+  pub is : entryOf s (h .entry) ≡ some entry
+  pub item : entryAt byteView (drop (h .at) s) ≡ some entry
+  pub as-many : h .blocks ≡ blocks entry
+  pub counted : h .counted ≡ isCounted entry
+  pub here : EntryHere s (h .at) (h .entry)
+
 pub record HolderInside (s : List ℕ) (h : Holder) : Type 0 where
-  pub whole : (number place : ℕ) → h ≡ holder-answer.Entry number place → WholeItem (drop place s)
+  pub held : (x : Held) → h ≡ holder-answer.Entry x → HeldHere s x
 
 pub record SurveyedInside (s : List ℕ) (r : Surveyed) : Type 0 where
   pub holder : (all : Survey) (h : Holder) → r ≡ surveyed-answer.Entries all h → HolderInside s h
@@ -281,6 +310,7 @@ readingOf s (reading-answer.Refused f) = refused (numberOf f)
 -- the texts and the entries lie in the part
 pub record ListInside (s : List ℕ) (l : listed.PackList) : Type 0 where
   pub identifier : AllInside s (l .identifier)
+  pub place : some (l .entries) ≡ numbersPlace entriesKey s 0
   pub first : l .entries .first ≤ length s
   pub whole : WholeItems (l .entries .count) (drop (l .entries .first) s)
   pub items : itemsIn s (l .entries) ≡ entryItems s
@@ -289,111 +319,39 @@ pub record ListInside (s : List ℕ) (l : listed.PackList) : Type 0 where
 pub record ReadingInside (s : List ℕ) (r : Reading) : Type 0 where
   pub list : (l : listed.PackList) → r ≡ reading-answer.List l → ListInside s l
 
--- ---- the block that holds a byte
-
--- in an entry whose deltas are counted, at an offset of its source range
-abbrev pub blockAt : ℕ → ℕ → Entry → Option Block
-blockAt stride offset e =
-    ifThere (sourcesFrom stride (e .source .len) (e .lengths) (e .deltas)) λ ns.
-    blockFrom 0 (e .stored .start) offset ns (storedLengths e)
-
-abbrev pub blockOf : BlockFound → Option Block
-blockOf (block-answer.Block b) = some b
-blockOf block-answer.None = none
-
-abbrev pub notedOf : Option Block → Bool → Block → Option Block
-notedOf (some b) holds block = some b
-notedOf none holds block = cond holds (some block) none
-
-abbrev pub lengthOf : Length → Option ℕ
-lengthOf (length-answer.Of n) = some n
-lengthOf length-answer.Below = none
-
-abbrev pub movedBy : ℕ → Option Int → Option ℕ
-movedBy stride (some d) = moved stride d
-movedBy stride none = none
-
-abbrev pub atMost : ℕ → Option ℕ → Option ℕ
-atMost left (some n) = cond (leb n left) (some n) none
-atMost left none = none
-
--- the entry whose places these are is as the rules say, and the offset is one of its source range
-pub record Offset (s : List ℕ) (e : placed.Entry) (offset : ℕ) : Type 0 where
-  pub entry : Entry
-  pub is : entryOf s e ≡ some entry
-  pub filled : isFilled entry ≡ true
-  pub below : offset < entry .source .len
-
--- the item m is an entry as the rules say, which holds the byte
-pub record Holding (byte : ℕ) (m : List ℕ) : Type 0 where
-  pub whole : WholeItem m
-  pub entry : Entry
-  pub is : entryAt byteView m ≡ some entry
-  pub filled : isFilled entry ≡ true
-  pub holds : holds entry byte ≡ true
-
-abbrev pub foundAt : (stride byte number : ℕ) → Option Entry → Found
-foundAt stride byte number (some e) = foundBy number e (blockIn stride e byte)
-foundAt stride byte number none = nowhere
-
--- by the entry that holds the byte
-abbrev pub foundWith : (stride byte : ℕ) → Option (ℕ × List ℕ) → Found
-foundWith stride byte none = nowhere
-foundWith stride byte (some h) = foundAt stride byte (h .0) (entryAt byteView (h .1))
-
 -- the list, the stride and the holder of the byte
 abbrev pub readFor : List ℕ → ListRead → Answer PackList
 readFor s (list-answer.List l stride holder) = result (listIn s l)
 readFor s (list-answer.Fault f) = refused (numberOf f)
 
+-- the number of the entry that holds the byte, and what it holds
+abbrev pub heldOf : List ℕ → Held → Option (ℕ × Entry)
+heldOf s h = over (λ e. (h .number, e)) (entryOf s (h .entry))
+
+abbrev pub holderIn : List ℕ → Holder → Option (ℕ × Entry)
+holderIn s holder-answer.None = none
+holderIn s (holder-answer.Entry h) = heldOf s h
+
+-- it keeps the rules, and holds the byte
+pub record HeldIs (s : List ℕ) (byte : ℕ) (h : Held) : Type 0 where
+  pub here : HeldHere s h
+  pub filled : isFilled (here .entry) ≡ true
+  pub holds : holds (here .entry) byte ≡ true
+  pub stands : drop (h .at) s ≡ getD (entryItems s) (h .number) []
+
 pub record ReadFor (s : List ℕ) (byte : ℕ) (r : ListRead) : Type 0 where
   pub reads : readFor s r ≡ packList s
   pub inside : (l : listed.PackList) (n : ℕ) (h : Holder) → r ≡ list-answer.List l n h → ListInside s l
   pub stride : (l : listed.PackList) (n : ℕ) (h : Holder) → r ≡ list-answer.List l n h → n ≡ stride (entriesIn s (l .entries))
-  pub found : (l : listed.PackList) (n : ℕ) (h : Holder) → r ≡ list-answer.List l n h → find (listIn s l) byte ≡ foundWith n byte (holderOf s h)
-  pub holding : (l : listed.PackList) (n number place : ℕ) → r ≡ list-answer.List l n (holder-answer.Entry number place) → Holding byte (drop place s)
-  pub stands : (l : listed.PackList) (n number place : ℕ) → r ≡ list-answer.List l n (holder-answer.Entry number place)
-      → drop place s ≡ getD (entryItems s) number []
+  pub held : (l : listed.PackList) (n : ℕ) (h : Holder) → r ≡ list-answer.List l n h → holderIn s h ≡ holderFrom byte 0 (entriesIn s (l .entries))
+  pub holding : (l : listed.PackList) (n : ℕ) (h : Held) → r ≡ list-answer.List l n (holder-answer.Entry h) → HeldIs s byte h
 
-abbrev pub foundEntry : ℕ → Option Entry → Found
-foundEntry number (some e) = inEntry number e
-foundEntry number none = nowhere
-
-abbrev pub foundBlock : ℕ → Block → Option Entry → Found
-foundBlock number b (some e) = inBlock number e b
-foundBlock number b none = nowhere
-
-abbrev pub foundOf : List ℕ → found.Found → Answer Found
-foundOf s found-answer.Nowhere = result nowhere
-foundOf s (found-answer.Entry number e) = result (foundEntry number (entryOf s e))
-foundOf s (found-answer.Block number e b) = result (foundBlock number b (entryOf s e))
-foundOf s (found-answer.Refused f) = refused (numberOf f)
-
--- an entry found, by its number
-pub record FoundBy (here : ℕ → placed.Entry → Type 0) (r : found.Found) : Type 0 where
-  pub entry : (number : ℕ) (e : placed.Entry) → r ≡ found-answer.Entry number e → here number e
-  pub block : (number : ℕ) (e : placed.Entry) (b : Block) → r ≡ found-answer.Block number e b → here number e
-
--- it has this number, and its item stands at a place
-abbrev pub FoundInside : List ℕ → (number at : ℕ) → found.Found → Type 0
-FoundInside s number at r = FoundBy (λ k e. (k ≡ number) × EntryHere s at e) r
-
--- it is the item of that number
+-- an entry told is the item of its number
 pub record EntryStands (s : List ℕ) (number : ℕ) (e : placed.Entry) : Type 0 where
   pub at : ℕ
   pub within : at < length s
   pub item : drop at s ≡ getD (entryItems s) number []
   pub here : EntryHere s at e
-
-abbrev pub FoundStands : List ℕ → found.Found → Type 0
-FoundStands s r = FoundBy (EntryStands s) r
-
-abbrev pub onList : {A : Type 0} → Answer PackList → (PackList → A) → Answer A
-onList (result l) next = result (next l)
-onList (refused n) next = refused n
-
-unfoldable pub findIn : List ℕ → ℕ → Answer Found
-findIn s byte = onList (packList s) λ l. find l byte
 
 -- ---- an entry and the place of the next
 
@@ -407,8 +365,9 @@ unfoldable pub nextEntry : List ℕ → ℕ → Option (Entry × ℕ)
 nextEntry s at = ifPassed (passOver (drop at s)) λ n. over (λ e. (e, at + n)) (entryAt byteView (drop at s))
 
 abbrev pub nextOf : List ℕ → NextEntry → Option (Entry × ℕ)
-nextOf s (next-answer.Entry e next) = over (λ x. (x, next)) (entryOf s e)
+nextOf s (next-answer.Entry e blocks next) = over (λ x. (x, next)) (entryOf s e)
 nextOf s next-answer.Missing = none
 
 pub record NextInside (s : List ℕ) (at : ℕ) (r : NextEntry) : Type 0 where
-  pub here : (e : placed.Entry) (next : ℕ) → r ≡ next-answer.Entry e next → EntryHere s at e
+  pub here : (e : placed.Entry) (n next : ℕ) → r ≡ next-answer.Entry e n next → EntryHere s at e
+  pub blocks : (e : placed.Entry) (n next : ℕ) → r ≡ next-answer.Entry e n next → (x : Entry) → entryOf s e ≡ some x → n ≡ blocks x

@@ -1,7 +1,7 @@
--- Blocks found in lists of entries, and parts that are read or refused; antt computes every answer.
+-- Entries with their blocks and strides, and parts that are read or refused; antt computes every answer.
 use Prim.Native.Nat.{ℕ, _+_, _-_}
 use mathlib.Core.List.{List, [], _∷_, _++_, map}
-use mathlib.Core.Option.{Option, none, some}
+use mathlib.Core.Option.{none, some}
 use mathlib.Core.Path.{_≡_, refl}
 use lib.ListN.{length, replicate}
 use Rattle.slices.specs.Bytes.{sameBytes}
@@ -23,126 +23,89 @@ use Rattle.primary.specs.Parts.{fills, textUnder, textsUnder, shapeAt, shapeUnd
 use Rattle.pack_list.specs.Lists.{range, Entry, PackList, eachOf, listAt, rangeAt, entryAt, entriesUnder, anyOf, entryRepeats, listRepeats, allOf, sum, greatest, isShort, isFilled, packList}
 use Rattle.pack_list.specs.declared.Range.{Range}
 use Rattle.pack_list.specs.Blocks as finding
-use Rattle.pack_list.specs.Blocks.{deltasOf, gains, losses, isCounted, ceiling, strideFor, stride, sourcesFrom, sources, storedFrom, storedLengths, blockFrom, Found, nowhere, inEntry, inBlock, blockIn, findFrom, find}
+use Rattle.pack_list.specs.Blocks.{storedFrom, storedLengths, deltasOf, gains, losses, isCounted, ceiling, strideFor, stride, holderFrom}
 
 -- ---- entries
 
 -- the pack's name plays no part in finding a block
-abbrev entry : (source stored : Range) → List ℕ → List Int → Entry
+abbrev pub entry : (source stored : Range) → List ℕ → List Int → Entry
 entry source stored lengths deltas = record { pack = []; source = source; stored = stored; lengths = lengths; deltas = deltas }
 
 -- document 001's printed entry
-abbrev printed : Entry
+abbrev pub printed : Entry
 printed = entry (range 0 36) (range 0 303) (101 ∷ 101 ∷ []) []
 
 -- 20 bytes in 2 blocks
-abbrev twenty : Entry
+abbrev pub twenty : Entry
 twenty = entry (range 0 20) (range 50 13) (7 ∷ []) []
 
--- from a place on 25 bytes in 3 blocks, the last of which has no stored byte
-abbrev inThree : ℕ → List Int → Entry
-inThree start deltas = entry (range start 25) (range 70 14) (6 ∷ 8 ∷ []) deltas
+-- the same with its last length listed too
+abbrev pub allListed : Entry
+allListed = entry (range 0 36) (range 0 303) (101 ∷ 101 ∷ 101 ∷ []) []
+
+-- from a place on 25 bytes in 3 blocks
+abbrev pub inThree : ℕ → List Int → Entry
+inThree start deltas = entry (range start 25) (range 70 19) (6 ∷ 8 ∷ []) deltas
+
+-- in a range of the pack of so many bytes, of which 6 and 8 are listed
+abbrev pub storedIn : ℕ → List Int → Entry
+storedIn len deltas = entry (range 0 25) (range 70 len) (6 ∷ 8 ∷ []) deltas
+
+-- from a place on 25 bytes in no block: nothing is listed of a range of nothing
+abbrev pub inNone : ℕ → Entry
+inNone start = entry (range start 25) (range 70 0) [] []
 
 -- from a place on: its sums exceed 64 bits by the deltas that are added, and by those that are subtracted
-abbrev added : ℕ → Entry
+abbrev pub added : ℕ → Entry
 added start = inThree start (plus greatest ∷ plus 1 ∷ [])
 
-abbrev subtracted : ℕ → Entry
+abbrev pub subtracted : ℕ → Entry
 subtracted start = inThree start (plus 1 ∷ minus (greatest - 24) ∷ [])
 
--- ---- the stride, and the source lengths of the last of these entries' blocks
+-- ---- how many blocks: one more than are listed, where these leave a rest
 
-pub record Lengths : Type 0 where
-  pub front : List Entry
-  pub last : Entry
-  pub stride : ℕ
-  pub sources : Option (List ℕ)
+pub blocks-counted : map finding.blocks (printed ∷ allListed ∷ twenty ∷ storedIn 14 [] ∷ storedIn 15 [] ∷ inNone 0
+    ∷ entry (range 0 25) (range 70 1) [] [] ∷ entry (range 0 25) (range 70 0) (0 ∷ []) [] ∷ entry (range 0 25) (range 70 1) (0 ∷ []) [] ∷ [])
+    ≡ 3 ∷ 3 ∷ 2 ∷ 2 ∷ 3 ∷ 0 ∷ 1 ∷ 1 ∷ 2 ∷ []
+unfolding finding.blocks storedFrom storedLengths
+blocks-counted = refl
 
-abbrev lengths : List Entry → Entry → ℕ → Option (List ℕ) → Lengths
-lengths front last stride sources = record { front = front; last = last; stride = stride; sources = sources }
+-- ---- the stride
 
-unfoldable pub strides : List Lengths
+-- of these entries
+abbrev of : ℕ → List Entry → List Entry × ℕ
+of n es = (es, n)
+
+unfoldable pub strides : List (List Entry × ℕ)
 strides =
-    lengths [] printed 12 (some (12 ∷ 12 ∷ 12 ∷ []))
-    ∷ lengths [] twenty 10 (some (10 ∷ 10 ∷ []))
-    ∷ lengths [] (inThree 0 []) 9 (some (9 ∷ 9 ∷ 7 ∷ []))
-    ∷ lengths (twenty ∷ []) (inThree 20 []) 10 (some (10 ∷ 10 ∷ 5 ∷ []))
-    ∷ lengths (inThree 20 [] ∷ []) twenty 10 (some (10 ∷ 10 ∷ []))
-    -- deltas: added, subtracted, of the last block, past it
-    ∷ lengths [] (inThree 0 (plus 4 ∷ [])) 7 (some (11 ∷ 7 ∷ 7 ∷ []))
-    ∷ lengths [] (inThree 0 (plus 0 ∷ minus 3 ∷ [])) 10 (some (10 ∷ 7 ∷ 8 ∷ []))
-    ∷ lengths [] (inThree 0 (plus 0 ∷ plus 0 ∷ minus 4 ∷ [])) 10 (some (10 ∷ 10 ∷ 5 ∷ []))
-    ∷ lengths [] (inThree 0 (plus 0 ∷ plus 0 ∷ plus 0 ∷ minus 100 ∷ plus greatest ∷ [])) 9 (some (9 ∷ 9 ∷ 7 ∷ []))
-    -- deltas that hold the source range by themselves
-    ∷ lengths [] (inThree 0 (plus 20 ∷ plus 5 ∷ [])) 0 (some (20 ∷ 5 ∷ 0 ∷ []))
-    -- a block of length 0, and blocks below it: the first, the second, the last
-    ∷ lengths [] (inThree 0 (minus 13 ∷ [])) 13 (some (0 ∷ 13 ∷ 12 ∷ []))
-    ∷ lengths [] (inThree 0 (minus 30 ∷ plus 50 ∷ [])) 2 none
-    ∷ lengths [] (inThree 0 (plus 9 ∷ minus 9 ∷ plus 9 ∷ [])) 6 none
-    ∷ lengths [] (inThree 0 (plus 20 ∷ plus 0 ∷ minus 20 ∷ [])) 9 none
-    -- sums that 64 bits do not hold, and those that they just hold
-    ∷ lengths (twenty ∷ []) (added 20) 10 none
-    ∷ lengths (twenty ∷ []) (subtracted 20) 10 none
-    ∷ lengths (added 20 ∷ subtracted 45 ∷ []) twenty 10 (some (10 ∷ 10 ∷ []))
-    ∷ lengths [] (inThree 0 (plus 0 ∷ plus 0 ∷ plus greatest ∷ [])) 0 (some (0 ∷ 0 ∷ 25 ∷ []))
-    ∷ lengths [] (entry (range 0 0) (range 0 0) [] (minus greatest ∷ [])) greatest (some (0 ∷ []))
+    of 0 []
+    ∷ of 12 (printed ∷ [])
+    ∷ of 12 (allListed ∷ [])
+    ∷ of 10 (twenty ∷ inThree 20 [] ∷ [])
+    ∷ of 13 (storedIn 14 [] ∷ [])
+    ∷ of 9 (storedIn 15 [] ∷ [])
+    -- deltas of either sign; past the last block they play no part
+    ∷ of 7 (inThree 0 (plus 4 ∷ []) ∷ [])
+    ∷ of 10 (inThree 0 (plus 0 ∷ minus 3 ∷ []) ∷ [])
+    ∷ of 11 (storedIn 14 (plus 0 ∷ plus 3 ∷ minus 8 ∷ []) ∷ [])
+    ∷ of 10 (storedIn 15 (plus 0 ∷ plus 3 ∷ minus 8 ∷ []) ∷ [])
+    ∷ of 0 (inThree 0 (plus 0 ∷ plus 0 ∷ plus greatest ∷ []) ∷ [])
+    -- without a block, and with sums that 64 bits do not hold, an entry takes no part
+    ∷ of 10 (twenty ∷ inNone 20 ∷ [])
+    ∷ of 10 (added 20 ∷ twenty ∷ subtracted 45 ∷ [])
+    ∷ of greatest (entry (range 0 0) (range 0 1) [] (minus greatest ∷ []) ∷ [])
     ∷ []
 
-pub strides-hold : map (λ (r : Lengths). lengths (r .front) (r .last) (stride (r .front ++ (r .last ∷ []))) (sources (r .stride) (r .last))) strides ≡ strides
-unfolding strides finding.blocks deltasOf gains losses isCounted ceiling strideFor stride sourcesFrom sources sum
+pub strides-hold : map (λ (r : List Entry × ℕ). (r .0, stride (r .0))) strides ≡ strides
+unfolding strides storedFrom storedLengths finding.blocks deltasOf gains losses isCounted ceiling strideFor stride sum
 strides-hold = refl
 
--- ---- the block that holds a byte
+-- ---- the entry that holds a byte
 
-pub record Asked : Type 0 where
-  pub entries : List Entry
-  pub byte : ℕ
-  pub found : Found
-
--- of these entries: bytes, and what is found for each
-abbrev of : List Entry → List (ℕ × Found) → List Asked
-of es ts = map (λ (t : ℕ × Found). record { entries = es; byte = t .0; found = t .1 }) ts
-
--- the number of the entry, that of the block, and the block's range of the pack
-abbrev is : ℕ → Entry → ℕ → ℕ → ℕ → Found
-is k e number start len = inBlock k e (record { number = number; stored = range start len })
-
-unfoldable pub bytes : List Asked
-bytes =
-    of (printed ∷ [])
-    ((0, is 0 printed 0 0 101) ∷ (11, is 0 printed 0 0 101)
-    ∷ (12, is 0 printed 1 101 101) ∷ (23, is 0 printed 1 101 101)
-    ∷ (24, is 0 printed 2 202 101) ∷ (35, is 0 printed 2 202 101)
-    ∷ (36, nowhere) ∷ [])
-    -- the stride is that of the whole list; the last stored length is what is left
-    ++ of (twenty ∷ inThree 20 [] ∷ [])
-    ((9, is 0 twenty 0 50 7) ∷ (10, is 0 twenty 1 57 6) ∷ (19, is 0 twenty 1 57 6)
-    ∷ (20, is 1 (inThree 20 []) 0 70 6) ∷ (39, is 1 (inThree 20 []) 1 76 8)
-    ∷ (40, is 1 (inThree 20 []) 2 84 0) ∷ (44, is 1 (inThree 20 []) 2 84 0)
-    ∷ (45, nowhere) ∷ [])
-    ++ of (inThree 20 [] ∷ [])
-    ((19, nowhere) ∷ (28, is 0 (inThree 20 []) 0 70 6) ∷ (29, is 0 (inThree 20 []) 1 76 8) ∷ (38, is 0 (inThree 20 []) 2 84 0) ∷ [])
-    -- a block of no source bytes holds none
-    ++ of (inThree 0 (minus 13 ∷ []) ∷ []) ((0, is 0 (inThree 0 (minus 13 ∷ [])) 1 76 8) ∷ [])
-    -- lengths that place a byte in no block, and sums that 64 bits do not hold: the entry alone
-    ++ of (inThree 0 (minus 30 ∷ plus 50 ∷ []) ∷ []) ((24, inEntry 0 (inThree 0 (minus 30 ∷ plus 50 ∷ []))) ∷ (25, nowhere) ∷ [])
-    ++ of (twenty ∷ added 20 ∷ []) ((9, is 0 twenty 0 50 7) ∷ (20, inEntry 1 (added 20)) ∷ [])
-    -- in several entries: the first of them, also where only a later one has a block for it
-    ++ of (twenty ∷ inThree 10 [] ∷ []) ((19, is 0 twenty 1 57 6) ∷ (20, is 1 (inThree 10 []) 1 76 8) ∷ [])
-    ++ of (inThree 10 [] ∷ twenty ∷ []) ((19, is 0 (inThree 10 []) 0 70 6) ∷ (9, is 1 twenty 0 50 7) ∷ [])
-    ++ of (added 10 ∷ twenty ∷ []) ((19, inEntry 0 (added 10)) ∷ [])
-    -- no entries, and none that holds a byte
-    ++ of [] ((0, nowhere) ∷ [])
-    ++ of (entry (range 0 0) (range 0 7) [] [] ∷ []) ((0, nowhere) ∷ [])
-
--- the version's identifier plays no part in it
-abbrev listOf : List Entry → PackList
-listOf es = record { identifier = identity [] [] []; entries = es }
-
-pub bytes-found : map (λ (r : Asked). find (listOf (r .entries)) (r .byte)) bytes ≡ map (λ (r : Asked). r .found) bytes
-unfolding bytes finding.blocks deltasOf gains losses isCounted ceiling strideFor stride sourcesFrom sources storedFrom storedLengths blockFrom blockIn
-    finding.holds findFrom find sum
-bytes-found = refl
+pub holders : map (λ (byte : ℕ). holderFrom byte 0 (twenty ∷ inThree 10 [] ∷ [])) (0 ∷ 19 ∷ 20 ∷ 34 ∷ 35 ∷ [])
+    ≡ some (0, twenty) ∷ some (0, twenty) ∷ some (1, inThree 10 []) ∷ some (1, inThree 10 []) ∷ none ∷ []
+unfolding finding.holds holderFrom
+holders = refl
 
 -- ---- parts, their items in their shortest form
 

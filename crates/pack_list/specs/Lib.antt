@@ -7,6 +7,5 @@ pub mod Walks
 pub mod Counts
 pub mod Stride
 pub mod Lengths
-pub mod Exactly
 pub mod Reading
 pub mod Examples

@@ -56,8 +56,8 @@ rangeKeys = startKey ∷ lengthKey ∷ []
 abbrev pub range : (start len : ℕ) → Range
 range start len = record { start = start; len = len }
 
--- `source` is a range of the version, `stored` (001's pack range) one of the pack. 001's lists of block and source lengths are `lengths`, of all blocks
--- but the last, and `deltas`, from the stride
+-- `source` is a range of the version, `stored` (001's pack range) one of the pack. 001's lists of block and source lengths are `lengths`, of all blocks,
+-- or of all but the last, and `deltas`, from the stride
 pub record Entry : Type 0 where
   pub pack : List ℕ
   pub source : Range

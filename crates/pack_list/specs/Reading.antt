@@ -1,7 +1,7 @@
 -- When a part reads as a pack list, and as which: exactly when a block's reader tells its identifier, its entries stand in it, once, and keep the rules.
 use Prim.Native.Nat.{ℕ, _+_, _≤_}
 use mathlib.Core.Bool.{Bool, true, false, cond, _&&_}
-use mathlib.Core.List.{List, [], _∷_, List·Memᴰ, List·Memᴰ·head, List·Memᴰ·tail, List·Memᴰ·not-nil, List·Memᴰ·cases-cons, Memᴰ·append-right}
+use mathlib.Core.List.{List, [], _∷_, List·Memᴰ, List·Memᴰ·head, List·Memᴰ·tail, List·Memᴰ·not-nil, List·Memᴰ·cases-cons}
 use mathlib.Core.Logic.{_↔_, ⊎-elim}
 use mathlib.Core.Option.{Option, none, some}
 use mathlib.Core.Path.{_≡_, refl, sym, ap, subst, _∙_}
@@ -16,11 +16,7 @@ use Rattle.identifier.specs.Identity.{Identity}
 use Rattle.primary.specs.Parts.{block}
 use Rattle.primary.specs.Exactly.{BlockNames, names-block, block-names}
 use Rattle.pack_list.specs.Lists.{Entry, PackList, entriesUnder, listRepeats, allOf, sum, greatest, isShort, isFilled, ifSo, packList}
-use Rattle.pack_list.specs.Blocks.{inBlock, find}
-use Rattle.pack_list.specs.declared.Block.{Block}
 use Rattle.pack_list.specs.Laws.{combined, list-together}
-use Rattle.pack_list.specs.Lengths.{Inside}
-use Rattle.pack_list.specs.Exactly.{find-exactly, told-inside}
 
 -- ---- the rules for an entry
 
@@ -112,13 +108,3 @@ module _ (s : List ℕ) (l : PackList) where
 
   pub list-exactly : packList s ≡ result l ↔ ListReads s l
   list-exactly = (list-reads, reads-list)
-
-  -- of a list that was read, the record of a block that is told lies in its entry's range of the pack, and so within 64 bits
-  pub read-inside : (byte k : ℕ) (e : Entry) (b : Block) → packList s ≡ result l → find l byte ≡ inBlock k e b
-      → Inside (b .stored) (e .stored) × (b .stored .start + b .stored .len ≤ greatest)
-  read-inside byte k e b h f =
-      let first = find-exactly l byte (inBlock k e b) .0 f .0 in
-      let m : List·Memᴰ e (l .entries) = rw (first .cut) (Memᴰ·append-right (first .front) (List·Memᴰ·head refl)) in
-      let rules = list-reads h .filled e m in
-      let inside = told-inside l byte k e b f (rules .listed) in
-      (inside, let most = inside .most in let ends = rules .stored-ends in omega arith)

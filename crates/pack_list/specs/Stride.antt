@@ -1,33 +1,34 @@
 -- The stride, said without a computation: the least number with which the blocks of every entry that is counted hold its source range.
 use Prim.Native.Nat.{ℕ, zero, suc, _+_, _-_, _*_, _≤_, _<_}
-use mathlib.Core.Bool.{Bool, true, false, cond}
+use mathlib.Core.Bool.{Bool, true, false, cond, _&&_}
 use mathlib.Core.List.{List, [], _∷_, List·Memᴰ, List·Memᴰ·head, List·Memᴰ·tail, List·Memᴰ·not-nil, List·Memᴰ·cases-cons}
 use mathlib.Core.Logic.{_↔_, ⊎-elim}
 use mathlib.Core.Path.{_≡_, refl, sym, subst}
 use native.Mathlib.Nat.{div-lt-iff-lt-mul}
 use native.Mathlib.Omega.{arith}
-use borrow.Author.Tests.{leb-true, leb-false, le-leb}
-use lib.Dec.{leb}
-use lib.ListN.{length}
+use borrow.Author.Tests.{ltb-true, lt-ltb, leb-true, leb-false, le-leb}
+use lib.Dec.{ltb, leb}
 use Rattle.slices.specs.Logic.{clash, both}
 use Rattle.pack_list.specs.Lists.{Entry, greatest}
 use Rattle.pack_list.specs.Blocks.{blocks, gains, losses, isCounted, ceiling, strideFor, larger, stride}
 
--- ---- an entry whose sums are within 64 bits
+-- ---- an entry that has a block, and whose sums are within 64 bits
 
 pub record Counted (e : Entry) : Type 0 where
+  pub some-block : 0 < blocks e
   pub gained : gains e ≤ greatest
   pub lost : e .source .len + losses e ≤ greatest
 
 pub counted-is : (e : Entry) → isCounted e ≡ true → Counted e
 unfolding isCounted
 counted-is e c =
-    let h = both (leb (gains e) greatest) (leb (e .source .len + losses e) greatest) c in
-    record { gained = leb-true (gains e) greatest (h .0); lost = leb-true (e .source .len + losses e) greatest (h .1) }
+    let b = both (ltb 0 (blocks e)) (leb (gains e) greatest && leb (e .source .len + losses e) greatest) c in
+    let h = both (leb (gains e) greatest) (leb (e .source .len + losses e) greatest) (b .1) in
+    record { some-block = ltb-true 0 (blocks e) (b .0); gained = leb-true (gains e) greatest (h .0); lost = leb-true (e .source .len + losses e) greatest (h .1) }
 
 pub is-counted : (e : Entry) → Counted e → isCounted e ≡ true
 unfolding isCounted
-is-counted e c = rw (le-leb (gains e) greatest (c .gained), le-leb (e .source .len + losses e) greatest (c .lost))
+is-counted e c = rw (lt-ltb 0 (blocks e) (c .some-block), le-leb (gains e) greatest (c .gained), le-leb (e .source .len + losses e) greatest (c .lost))
 
 pub counted-exactly : (e : Entry) → isCounted e ≡ true ↔ Counted e
 counted-exactly e = (counted-is e, is-counted e)
@@ -46,10 +47,11 @@ ceiling-least (suc a) n s = (
   λ h. div-lt-iff-lt-mul {k = suc n} (omega arith) .1 (omega arith),
 )
 
-stride-for-least : (e : Entry) (s : ℕ) → strideFor e ≤ s ↔ Enough s e
-unfolding strideFor blocks
-stride-for-least e s =
-    let c = ceiling-least (e .source .len + losses e - gains e) (length (e .lengths)) s in
+stride-for-least : (e : Entry) (s : ℕ) → 0 < blocks e → strideFor e ≤ s ↔ Enough s e
+unfolding strideFor
+stride-for-least e s some-block =
+    let all : suc (blocks e - 1) ≡ blocks e = omega arith in
+    let c = rw all at (ceiling-least (e .source .len + losses e - gains e) (blocks e - 1) s) in
     (λ h. let g = c .0 h in omega arith, λ h. c .1 (omega arith))
 
 larger-least : (m n s : ℕ) → larger m n ≤ s ↔ ((m ≤ s) × (n ≤ s))
@@ -69,10 +71,10 @@ stride-least (e ∷ es) s = go (stride-least es s) (isCounted e) refl
     go rest true c = (
       λ h f m k.
           let g = larger-least (strideFor e) (stride es) s .0 h in
-          ⊎-elim (λ same. subst (Enough s) (sym same) (stride-for-least e s .0 (g .0))) (λ n. rest .0 (g .1) f n k) (List·Memᴰ·cases-cons m),
+          ⊎-elim (λ same. subst (Enough s) (sym same) (stride-for-least e s (counted-is e c .some-block) .0 (g .0))) (λ n. rest .0 (g .1) f n k) (List·Memᴰ·cases-cons m),
       λ h.
           larger-least (strideFor e) (stride es) s .1
-          (stride-for-least e s .1 (h e (List·Memᴰ·head refl) (counted-is e c)), rest .1 (λ f m k. h f (List·Memᴰ·tail m) k)),
+          (stride-for-least e s (counted-is e c .some-block) .1 (h e (List·Memᴰ·head refl) (counted-is e c)), rest .1 (λ f m k. h f (List·Memᴰ·tail m) k)),
     )
     go rest false c = (
       λ h f m k.

@@ -17,6 +17,7 @@ use Rattle.msgpack.specs.Readers.{Int, readInteger}
 use Rattle.msgpack.specs.Views.{sizeOf, itemsFrom, byteView}
 use Rattle.value.specs.Fields.{readNatural}
 use Rattle.pack_list.specs.Lists.{Entry, eachOf, entryAt}
+use Rattle.pack_list.specs.Blocks.{blocks}
 use Rattle.pack_list.specs.declared.Entry as placed
 use Rattle.pack_list.specs.declared.PackList as listed
 use Rattle.pack_list.specs.declared.NextEntry.{NextEntry}
@@ -125,6 +126,16 @@ entry-is s e x h = go (eachOf readNatural (itemsIn s (e .lengths))) refl (eachOf
           stored = (cc);
         }
 
+-- ---- an item's place settles where what an entry tells stands
+
+pub places-settled : (s : List ℕ) (at : ℕ) (e f : placed.Entry) → EntryHere s at e → EntryHere s at f
+    → (e .pack ≡ f .pack) × ((e .lengths ≡ f .lengths) × (e .deltas ≡ f .deltas))
+places-settled s at e f h k =
+    let packs : some (e .pack) ≡ some (f .pack) = h .pack ∙ sym (k .pack) in
+    let lengths : some (e .lengths) ≡ some (f .lengths) = h .lengths ∙ sym (k .lengths) in
+    let deltas : some (e .deltas) ≡ some (f .deltas) = h .deltas ∙ sym (k .deltas) in
+    (cc, (cc, cc))
+
 -- ---- the entries of a list
 
 -- those from the k-th on, which stands at a place: so many items, read as these entries
@@ -147,13 +158,15 @@ walk-end s k at es f = let nothing = f .are in cc
 -- what is told at the place is the first of them, and the walk goes on behind it
 pub record Walked (s : List ℕ) (k at n : ℕ) (es : List Entry) (r : NextEntry) : Type 0 where
   pub entry : placed.Entry
+  pub count : ℕ
   pub next : ℕ
-  pub is : r ≡ next-answer.Entry entry next
+  pub is : r ≡ next-answer.Entry entry count next
   pub first : Entry
   pub others : List Entry
   pub are : es ≡ first ∷ others
   pub told : entryAt byteView (drop at s) ≡ some first
   pub reads : entryOf s entry ≡ some first
+  pub as-many : count ≡ blocks first
   pub stands : EntryStands s k entry
   pub rest : EntriesFrom s (k + 1) next (n - 1) others
 
@@ -191,35 +204,37 @@ module _ (s : List ℕ) (k at n : ℕ) (es : List Entry) (f : EntriesFrom s k at
   next-is = let w = item-whole in rw (w .is, read .reads)
 
   pub walk-on : (r : NextEntry) → nextOf s r ≡ nextEntry s at → NextInside s at r → Walked s k at n es r
-  walk-on r told inside = by r (told ∙ next-is) (λ e next q. inside .here e next q)
+  walk-on r told inside = by r (told ∙ next-is) inside
     where
-      by : (x : NextEntry) → nextOf s x ≡ some (read .first, behind) → ((e : placed.Entry) (next : ℕ) → x ≡ next-answer.Entry e next → EntryHere s at e)
-          → Walked s k at n es x
-      by next-answer.Missing q here = absurd-numbers (cc)
-      by (next-answer.Entry e next) q here = with-entry (entryOf s e) refl q
+      by : (x : NextEntry) → nextOf s x ≡ some (read .first, behind) → NextInside s at x → Walked s k at n es x
+      by next-answer.Missing q i = absurd-numbers (cc)
+      by (next-answer.Entry e count next) q i = with-entry (entryOf s e) refl q
         where
           with-entry : (o : Option Entry) → entryOf s e ≡ o → over {B = Entry × ℕ} (λ x. (x, next)) o ≡ some (read .first, behind)
-              → Walked s k at n es (next-answer.Entry e next)
-          with-entry none p w = absurd-numbers (cc)
-          with-entry (some x) p w =
+              → Walked s k at n es (next-answer.Entry e count next)
+          with-entry none p v = absurd-numbers (cc)
+          with-entry (some x) p v =
               let pair : _≡_ {A = Entry × ℕ} (x, next) (read .first, behind) = cc in
               let place : next ≡ behind = ap (λ (y : Entry × ℕ). y .1) pair in
-              let i = item-whole in
-              let taken = bounded depthAllowed (drop at s) (i .size) (i .is) in
+              let w = item-whole in
+              let taken = bounded depthAllowed (drop at s) (w .size) (w .is) in
+              let reads = p ∙ ap (λ (y : Entry × ℕ). some (y .0)) pair in
               record {
                 entry = e;
+                count = count;
                 next = next;
                 is = refl;
                 first = read .first;
                 others = read .others;
                 are = read .is;
                 told = read .reads;
-                reads = p ∙ ap (λ (y : Entry × ℕ). some (y .0)) pair;
+                reads = reads;
+                as-many = i .blocks e count next refl (read .first) reads;
                 stands = record {
                   at = at;
                   within = omega (arith, taken .some-byte, taken .within, length-drop at s);
                   item = item;
-                  here = here e next refl;
+                  here = i .here e count next refl;
                 };
                 rest = rw place others-from;
               }

@@ -1,22 +1,21 @@
-// The primary part of a pack list: which range of a version lies in which range of which pack, and which
-// block holds a byte of the version. Entries and lengths are read where they stand; nothing is copied.
-ghost use mathlib.Core.Bool.{cond};
+// The primary part of a pack list: which range of a version lies in which range of which pack, and in how
+// many blocks. Entries and lengths are read where they stand; nothing is copied.
+ghost use mathlib.Core.Bool.{true, cond, _&&_};
 ghost use mathlib.Core.List.{[]};
 ghost use mathlib.Core.Option.{none, some};
 ghost use mathlib.Core.Path.{_≡_};
 ghost use Prim.Native.Nat.{_+_, _-_, _≤_, _<_};
-ghost use lib.Dec.{leb};
+ghost use lib.Dec.{ltb};
 ghost use lib.ListN.{length, drop};
-ghost use Rattle.refusals.specs.Answers.{result};
-ghost use Rattle.msgpack.specs.Items.{passOver, WholeItem};
-ghost use Rattle.msgpack.specs.Readers.{plus, minus, integerRead, readInteger};
-ghost use Rattle.msgpack.specs.Lookup.{atPlace, ifThere, over};
+ghost use Rattle.msgpack.specs.Items.{passageOf, passOver, WholeItem};
+ghost use Rattle.msgpack.specs.Readers.{plus, minus};
+ghost use Rattle.msgpack.specs.Lookup.{atPlace, over};
 ghost use Rattle.msgpack.specs.Pairs.{placeTold};
 ghost use Rattle.msgpack.specs.Views.{sizeOf, byteView};
 ghost use Rattle.value.specs.Fields.{readNatural};
-ghost use Rattle.pack_list.specs.Lists.{eachOf, entryAt, sum, isShort, packList};
-ghost use Rattle.pack_list.specs.Blocks.{ceiling, larger, isIn};
-ghost use Rattle.pack_list.specs.Answers.{numberOf, rangeOf, rangeTold, ValueAt, itemsIn, numbersOf, WholeItems, NumbersInside, lengthsOf, WithDelta, DeltasSummed, entryOf, toldOf, toldIn, SameEntry, entryTold, EntryAt, EntryInside, withTests, holderWith, surveyOf, surveyed, SurveyedInside, faultBeside, listBy, ReadFor, readingOf, ReadingInside, nextOf, nextEntry, NextInside, lengthOf, movedBy, atMost, blockOf, notedOf, blockAt, Offset, Holding, foundAt, FoundInside, FoundStands, foundOf, findIn};
+ghost use Rattle.pack_list.specs.Lists.{eachOf, greatest, isShort, packList};
+ghost use Rattle.pack_list.specs.Blocks.{restOf, ceiling, larger, isIn};
+ghost use Rattle.pack_list.specs.Answers.{numberOf, rangeOf, rangeTold, ValueAt, itemsIn, numbersOf, numbersAt, numbersBy, WholeItems, NumbersInside, withinFrom, lengthsOf, WithDelta, DeltasSummed, entryOf, toldOf, toldIn, SameEntry, entryTold, EntryAt, EntryInside, withTests, holderWith, surveyOf, surveyed, SurveyedInside, faultBeside, listBy, ReadFor, readingOf, ReadingInside, nextOf, nextEntry, NextInside};
 use endian::Number;
 use msgpack::Integer;
 use msgpack::Items;
@@ -27,7 +26,7 @@ use primary::Texts;
 use slices::Place;
 
 // The codes of the keys that are asked for. Of a list, beside its identifier's: `P`.
-const LIST_KEYS: [u64; 8] = [0x150, 0, 0, 0, 0, 0, 0, 0];
+const ENTRIES: u64 = 0x150;
 
 // Of an entry: `p`, `o`, `t`, `E` and `N`.
 const ENTRY_KEYS: [u64; 8] = [0x170, 0x16f, 0x174, 0x145, 0x14e, 0, 0, 0];
@@ -126,6 +125,7 @@ fn numbers_under(part: &[u8], at: usize, place: usize) -> NumbersRead
     ensures { λ r. ⌜ numbersOf (now (part .entry)) r
         ≡ atPlace (some []) (λ p. byteView .items (drop p (drop at (now (part .entry))))) (placeTold place) ⌝ }
     ensures inside { λ r. ⌜ NumbersInside (now (part .entry)) r ⌝ }
+    ensures place { λ r. ⌜ numbersAt r ≡ numbersBy (now (part .entry)) at (placeTold place) ⌝ }
 {
     if place == 0 {
         return NumbersRead::Numbers(Numbers {
@@ -142,8 +142,8 @@ fn numbers_under(part: &[u8], at: usize, place: usize) -> NumbersRead
     }
 }
 
-// Where the item after the one at a place stands.
-fn after(part: &[u8], at: usize) -> usize
+// Where the item after the one at a place stands; that place, where no whole item does.
+pub fn after(part: &[u8], at: usize) -> usize
     ensures { λ r. ⌜ r ≡ at + sizeOf (passOver (drop at (now (part .entry)))) ⌝ }
 {
     match msgpack::pass_over(slices::from(part, at)) {
@@ -154,14 +154,14 @@ fn after(part: &[u8], at: usize) -> usize
 }
 
 enum Lengths {
-    // Whether all of them together are at most the total.
-    Natural(bool),
+    // Whether all of them together are at most the total, and what they leave of it.
+    Natural(bool, u64),
     Missing,
 }
 
 // Nothing is added before it is compared.
 fn lengths_within(part: &[u8], lengths: Numbers, total: u64) -> Lengths
-    ensures { λ r. ⌜ lengthsOf r ≡ over (λ ls. leb (sum ls) total) (eachOf readNatural (itemsIn (now (part .entry)) lengths)) ⌝ }
+    ensures { λ r. ⌜ lengthsOf r ≡ over (withinFrom true total) (eachOf readNatural (itemsIn (now (part .entry)) lengths)) ⌝ }
 {
     let mut at = lengths.first;
     let mut count = lengths.count;
@@ -176,7 +176,18 @@ fn lengths_within(part: &[u8], lengths: Numbers, total: u64) -> Lengths
         at = after(part, at);
         count -= 1;
     }
-    Lengths::Natural(within)
+    Lengths::Natural(within, left)
+}
+
+// So many blocks as lengths are listed, and one more, where these leave a rest.
+fn with_rest(listed: usize, rest: u64) -> usize
+    requires { ⌜ listed < greatest ⌝ }
+    ensures { λ r. ⌜ r ≡ listed + length (restOf rest) ⌝ }
+{
+    if rest == 0 {
+        return listed;
+    }
+    listed + 1
 }
 
 // a - b, or 0.
@@ -281,21 +292,24 @@ fn ceiling(a: u64, n: u64) -> u64
     (a - 1) / n + 1
 }
 
-// The least stride with which so many blocks hold the source range; 0, where the sums are not counted.
-fn stride_for(sums: Sums, blocks: u64) -> u64
-    requires { ⌜ 0 < blocks ⌝ }
-    ensures { λ r. ⌜ r ≡ cond (sums .counted) (ceiling (sums .losses - sums .gains) (blocks - 1)) 0 ⌝ }
+// The least stride with which so many blocks hold the source range; 0, where there are none, or the sums
+// are not counted.
+fn stride_for(sums: Sums, blocks: usize) -> u64
+    ensures { λ r. ⌜ r ≡ cond (ltb 0 blocks && sums .counted) (ceiling (sums .losses - sums .gains) (blocks - 1)) 0 ⌝ }
 {
+    if blocks == 0 {
+        return 0;
+    }
     if !sums.counted {
         return 0;
     }
-    ceiling(less(sums.losses, sums.gains), blocks)
+    ceiling(less(sums.losses, sums.gains), blocks as u64)
 }
 
 // ---- entries
 
-// Where the pack's ULID stands, the range of the version, that of the pack, the stored lengths of the
-// blocks but the last, and the deltas of source lengths from the stride.
+// Where the pack's ULID stands, the range of the version, that of the pack, the stored lengths of blocks
+// that are listed, and the deltas of source lengths from the stride.
 pub struct Entry {
     pub pack: Place,
     pub source: Range,
@@ -304,12 +318,15 @@ pub struct Entry {
     pub deltas: Numbers,
 }
 
-// What is told of an entry: whether a key repeats in it; whether it keeps the rule for ULIDs, and that for
-// ranges and lengths; the stride that it asks for, and whether it takes part in finding the list's.
+// What is told of an entry: how many bytes it has; whether a key repeats in it; whether it keeps the rule
+// for ULIDs, and that for ranges and lengths; how many blocks it has; the stride that it asks for, and
+// whether it takes part in finding the list's.
 struct Tests {
+    size: usize,
     repeated: bool,
     named: bool,
     filled: bool,
+    blocks: usize,
     stride: u64,
     counted: bool,
 }
@@ -319,8 +336,10 @@ enum EntryRead {
     Missing,
 }
 
-// Where the values of an entry's keys stand, 0 where a key is missing; and whether one repeats.
+// How many bytes an entry has; where the values of its keys stand, 0 where a key is missing; and whether
+// one repeats.
 struct EntryPlaces {
+    size: usize,
     pack: usize,
     source: usize,
     stored: usize,
@@ -330,29 +349,31 @@ struct EntryPlaces {
 }
 
 // With what its lengths and deltas tell.
-fn tested(part: &[u8], e: Entry, repeated: bool) -> EntryRead
+fn tested(part: &[u8], e: Entry, repeated: bool, size: usize) -> EntryRead
     requires { ⌜ WholeItems (e .lengths .count) (drop (e .lengths .first) (now part)) ⌝ }
-    ensures { λ r. ⌜ toldIn (now (part .entry)) r ≡ over (λ x. toldOf x repeated) (entryOf (now (part .entry)) e) ⌝ }
+    ensures { λ r. ⌜ toldIn (now (part .entry)) r ≡ over (λ x. toldOf x repeated size) (entryOf (now (part .entry)) e) ⌝ }
     ensures pack { λ r. ⌜ SameEntry (now (part .entry)) e r ⌝ }
 {
     let source = e.source;
     let stored = e.stored;
     let lengths = e.lengths;
-    let Lengths::Natural(within) = lengths_within(part, lengths, stored.len) else {
+    let Lengths::Natural(within, rest) = lengths_within(part, lengths, stored.len) else {
         return EntryRead::Missing;
     };
-    let blocks = lengths.count + 1;
+    let blocks = with_rest(lengths.count, rest);
     let Deltas::Summed(sums) = deltas_summed(part, e.deltas, blocks, source.len) else {
         return EntryRead::Missing;
     };
     EntryRead::Entry(
         e,
         Tests {
+            size,
             repeated,
             named: identifier::is_ulid(slices::part(part, e.pack)),
             filled: is_short(source) & (is_short(stored) & within),
-            stride: stride_for(sums, blocks as u64),
-            counted: sums.counted,
+            blocks,
+            stride: stride_for(sums, blocks),
+            counted: (0 < blocks) & sums.counted,
         },
     )
 }
@@ -392,10 +413,22 @@ fn entry_by(part: &[u8], at: usize, places: EntryPlaces) -> EntryRead
             deltas,
         },
         repeated,
+        places.size,
     )
 }
 
-// The entry at a place, which is a whole item.
+// How many bytes an item has that was passed over; 0, where none was whole.
+fn size_of(passed: Passed) -> usize
+    ensures { λ r. ⌜ r ≡ sizeOf (passageOf passed) ⌝ }
+{
+    match passed {
+        Passed::Whole(n) => n,
+        Passed::Cut => 0,
+        Passed::TooDeep => 0,
+    }
+}
+
+// The entry at a place, which is a whole item; it is passed over once.
 fn entry_at(part: &[u8], at: usize) -> EntryRead
     requires { ⌜ WholeItem (drop at (now part)) ⌝ }
     ensures { λ r. ⌜ toldIn (now (part .entry)) r ≡ entryTold (drop at (now (part .entry))) ⌝ }
@@ -405,12 +438,15 @@ fn entry_at(part: &[u8], at: usize) -> EntryRead
     if !pairs.map {
         return EntryRead::Missing;
     }
+    let passed = pairs.passed;
+    let size = size_of(passed);
     let places = pairs.places;
     let repeated = pairs.repeated;
     entry_by(
         part,
         at,
         EntryPlaces {
+            size,
             pack: places[0],
             source: places[1],
             stored: places[2],
@@ -441,11 +477,20 @@ struct Survey {
     stride: u64,
 }
 
+// An entry that holds the byte: its number, and where it stands; how many blocks it has, and whether it
+// takes part in finding the stride.
+pub struct Held {
+    pub number: usize,
+    pub at: usize,
+    pub entry: Entry,
+    pub blocks: usize,
+    pub counted: bool,
+}
+
 // The first of them that holds the byte.
-enum Holder {
+pub enum Holder {
     None,
-    // Its number, and where it stands.
-    Entry(usize, usize),
+    Entry(Held),
 }
 
 enum Surveyed {
@@ -472,18 +517,18 @@ fn with_entry(all: Survey, t: Tests) -> Survey
     }
 }
 
-// With one entry more, which has this number, stands at a place, and holds the byte or not.
-fn with_holder(holder: Holder, held: bool, number: usize, place: usize) -> Holder
-    ensures { λ r. ⌜ r ≡ holderWith holder held number place ⌝ }
+// With one entry more, which holds the byte or not.
+fn with_holder(holder: Holder, holds: bool, held: Held) -> Holder
+    ensures { λ r. ⌜ r ≡ holderWith holder holds held ⌝ }
 {
     match holder {
         Holder::None => {
-            if held {
-                return Holder::Entry(number, place);
+            if holds {
+                return Holder::Entry(held);
             }
             Holder::None
         }
-        Holder::Entry(k, p) => Holder::Entry(k, p),
+        Holder::Entry(first) => Holder::Entry(first),
     }
 }
 
@@ -506,8 +551,15 @@ fn survey_entries(part: &[u8], entries: Numbers, byte: u64) -> Surveyed
             return Surveyed::Not;
         };
         all = with_entry(all, t);
-        holder = with_holder(holder, holds(e.source, byte), k, at);
-        at = after(part, at);
+        let held = Held {
+            number: k,
+            at,
+            entry: e,
+            blocks: t.blocks,
+            counted: t.counted,
+        };
+        holder = with_holder(holder, holds(e.source, byte), held);
+        at += t.size;
         k += 1;
     }
     Surveyed::Entries(all, holder)
@@ -521,8 +573,8 @@ pub struct PackList {
     pub entries: Numbers,
 }
 
-enum ListRead {
-    // With the stride, and the entry that holds the byte.
+pub enum ListRead {
+    // With the stride, and the first entry that holds the byte.
     List(PackList, u64, Holder),
     Fault(Fault),
 }
@@ -569,11 +621,12 @@ fn list_by(identifier: BlockRead, entries: Numbers, all: Survey, holder: Holder)
     }
 }
 
-// The list, for a byte of the version.
-fn read_for(part: &[u8], byte: u64) -> ListRead
+// The list, its stride, and the first entry that holds a byte of the version.
+pub fn read_for(part: &[u8], byte: u64) -> ListRead
     ensures { λ r. ⌜ ReadFor (now (part .entry)) byte r ⌝ }
 {
-    let pairs = msgpack::read_pairs(part, LIST_KEYS);
+    let both = primary::read_block_beside(part, ENTRIES);
+    let pairs = both.pairs;
     let passed = pairs.passed;
     if !primary::fills(passed, part.len()) {
         return ListRead::Fault(Fault::Part(primary::Fault::NotWhole));
@@ -582,7 +635,7 @@ fn read_for(part: &[u8], byte: u64) -> ListRead
         return ListRead::Fault(Fault::Part(primary::Fault::NotAsDescribed));
     }
     let places = pairs.places;
-    let NumbersRead::Numbers(entries) = numbers_under(part, 0, places[0]) else {
+    let NumbersRead::Numbers(entries) = numbers_under(part, 0, places[1]) else {
         return ListRead::Fault(Fault::Part(primary::Fault::NotAsDescribed));
     };
     let Surveyed::Entries(inside, holder) = survey_entries(part, entries, byte) else {
@@ -590,12 +643,13 @@ fn read_for(part: &[u8], byte: u64) -> ListRead
     };
     let repeated = pairs.repeated;
     let all = Survey {
-        repeated: repeated[0] | inside.repeated,
+        repeated: repeated[1] | inside.repeated,
         named: inside.named,
         filled: inside.filled,
         stride: inside.stride,
     };
-    list_by(primary::read_block(part), entries, all, holder)
+    let identifier = both.block;
+    list_by(identifier, entries, all, holder)
 }
 
 pub enum Reading {
@@ -614,9 +668,9 @@ pub fn read(part: &[u8]) -> Reading
     }
 }
 
-// An entry, and where the next one stands.
+// An entry, how many blocks it has, and where the next one stands.
 pub enum NextEntry {
-    Entry(Entry, usize),
+    Entry(Entry, usize, usize),
     Missing,
 }
 
@@ -627,175 +681,10 @@ pub fn next_entry(part: &[u8], at: usize) -> NextEntry
 {
     match msgpack::pass_over(slices::from(part, at)) {
         Passed::Whole(n) => match entry_at(part, at) {
-            EntryRead::Entry(e, _) => NextEntry::Entry(e, at + n),
+            EntryRead::Entry(e, t) => NextEntry::Entry(e, t.blocks, at + n),
             EntryRead::Missing => NextEntry::Missing,
         },
         Passed::Cut => NextEntry::Missing,
         Passed::TooDeep => NextEntry::Missing,
-    }
-}
-
-// ---- the block that holds a byte
-
-// A block by its number in its entry, and its record's range of the pack.
-pub struct Block {
-    pub number: usize,
-    pub stored: Range,
-}
-
-enum BlockFound {
-    Block(Block),
-    // A block would have a length below 0.
-    None,
-}
-
-enum Length {
-    Of(u64),
-    Below,
-}
-
-// The source length of a block that is not the last: the stride with its delta, at most what is left.
-fn source_length(stride: u64, delta: Integer, left: u64) -> Length
-    ensures { λ r. ⌜ lengthOf r ≡ atMost left (movedBy stride (integerRead delta)) ⌝ }
-{
-    match delta {
-        Integer::NonNegative(n) => {
-            if left < n {
-                return Length::Below;
-            }
-            if left - n < stride {
-                return Length::Below;
-            }
-            Length::Of(stride + n)
-        }
-        Integer::Negative(n) => {
-            if stride < n {
-                return Length::Below;
-            }
-            if left < stride - n {
-                return Length::Below;
-            }
-            Length::Of(stride - n)
-        }
-        Integer::Missing => Length::Below,
-    }
-}
-
-// The k-th delta, which stands at a place, and 0 behind the last.
-fn delta_at(part: &[u8], deltas: Numbers, k: usize, at: usize) -> Integer
-    ensures { λ r. ⌜ integerRead r ≡ cond (leb (deltas .count) k) (some (plus 0)) (readInteger (drop at (now (part .entry)))) ⌝ }
-{
-    if deltas.count <= k {
-        return Integer::NonNegative(0);
-    }
-    msgpack::read_integer(slices::from(part, at))
-}
-
-// Where the delta of the next block stands.
-fn delta_after(part: &[u8], deltas: Numbers, k: usize, at: usize) -> usize
-    ensures { λ r. ⌜ r ≡ cond (leb (deltas .count) k) at (at + sizeOf (passOver (drop at (now (part .entry))))) ⌝ }
-{
-    if deltas.count <= k {
-        return at;
-    }
-    after(part, at)
-}
-
-// This block, where it is the first to hold the byte.
-fn noted(found: BlockFound, holds: bool, block: Block) -> BlockFound
-    ensures { λ r. ⌜ blockOf r ≡ notedOf (blockOf found) holds block ⌝ }
-{
-    match found {
-        BlockFound::Block(b) => BlockFound::Block(b),
-        BlockFound::None => {
-            if holds {
-                return BlockFound::Block(block);
-            }
-            BlockFound::None
-        }
-    }
-}
-
-// The block of an entry that holds the byte at an offset of its source range, if the lengths of all its
-// blocks are at least 0.
-fn block_in(part: &[u8], e: Entry, stride: u64, offset: u64) -> BlockFound
-    requires { ⌜ Offset (now part) e offset ⌝ }
-    ensures { λ r. ⌜ blockOf r ≡ ifThere (entryOf (now (part .entry)) e) (blockAt stride offset) ⌝ }
-{
-    let lengths = e.lengths;
-    let deltas = e.deltas;
-    let mut start = e.stored.start;
-    let mut stored = e.stored.len;
-    let mut source = e.source.len;
-    let mut behind = offset;
-    let mut at = lengths.first;
-    let mut delta = deltas.first;
-    let mut k = 0;
-    let mut found = BlockFound::None;
-    while k < lengths.count {
-        let Number::Read(len) = value::natural_at(slices::from(part, at)) else {
-            return BlockFound::None;
-        };
-        let Length::Of(n) = source_length(stride, delta_at(part, deltas, k, delta), source) else {
-            return BlockFound::None;
-        };
-        let block = Block {
-            number: k,
-            stored: Range { start, len },
-        };
-        found = noted(found, behind < n, block);
-        behind = less(behind, n);
-        start += len;
-        stored -= len;
-        source -= n;
-        at = after(part, at);
-        delta = delta_after(part, deltas, k, delta);
-        k += 1;
-    }
-    let last = Block {
-        number: k,
-        stored: Range { start, len: stored },
-    };
-    noted(found, true, last)
-}
-
-pub enum Found {
-    Nowhere,
-    // The entry with this number, whose lengths place the byte in no block.
-    Entry(usize, Entry),
-    Block(usize, Entry, Block),
-    Refused(Fault),
-}
-
-// The byte in the entry with this number, which stands at a place and holds it.
-fn find_in(part: &[u8], number: usize, place: usize, stride: u64, byte: u64) -> Found
-    requires { ⌜ Holding byte (drop place (now part)) ⌝ }
-    ensures { λ r. ⌜ foundOf (now (part .entry)) r ≡ result (foundAt stride byte number (entryAt byteView (drop place (now (part .entry))))) ⌝ }
-    ensures inside { λ r. ⌜ FoundInside (now (part .entry)) number place r ⌝ }
-{
-    let EntryRead::Entry(e, t) = entry_at(part, place) else {
-        return Found::Nowhere;
-    };
-    if !t.counted {
-        return Found::Entry(number, e);
-    }
-    let source = e.source;
-    match block_in(part, e, stride, less(byte, source.start)) {
-        BlockFound::Block(b) => Found::Block(number, e, b),
-        BlockFound::None => Found::Entry(number, e),
-    }
-}
-
-// The block that holds a byte of the version.
-pub fn find(part: &[u8], byte: u64) -> Found
-    ensures { λ r. ⌜ foundOf (now (part .entry)) r ≡ findIn (now (part .entry)) byte ⌝ }
-    ensures inside { λ r. ⌜ FoundStands (now (part .entry)) r ⌝ }
-{
-    match read_for(part, byte) {
-        ListRead::Fault(f) => Found::Refused(f),
-        ListRead::List(_, stride, holder) => match holder {
-            Holder::None => Found::Nowhere,
-            Holder::Entry(number, place) => find_in(part, number, place, stride, byte),
-        },
     }
 }

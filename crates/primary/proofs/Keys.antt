@@ -54,21 +54,18 @@ module _ (s : List ℕ) (r : Pairs) (read : PairsRead s identifierKeys r) (n : �
 
 -- ---- a block
 
-abbrev pub blockKeys : List ℕ
-blockKeys = 0x149 ∷ 0 ∷ 0 ∷ 0 ∷ 0 ∷ 0 ∷ 0 ∷ 0 ∷ []
-
-module _ (s : List ℕ) (r : Pairs) (read : PairsRead s blockKeys r) (n : ℕ) (w : passOver s ≡ whole n) where
+module _ (s others : List ℕ) (r : Pairs) (read : PairsRead s (0x149 ∷ others) r) (n : ℕ) (w : passOver s ≡ whole n) where
   pub block-place : r .map ≡ true → lastValue identifierKey s ≡ placeTold (getD (r .places) 0 0)
   unfolding position codeOf big little
-  block-place = letter-place s blockKeys r read n w 73 0 (omega arith) (omega arith) refl
+  block-place = letter-place s (0x149 ∷ others) r read n w 73 0 (omega arith) (omega arith) refl
 
   pub block-repeats : repeats byteView keys.blockKeys s ≡ getD (r .repeated) 0 false
   unfolding repeats position codeOf big little
-  block-repeats = rw (letter-repeats s blockKeys r read n w 73 0 (omega arith) (omega arith) refl, or-false)
+  block-repeats = rw (letter-repeats s (0x149 ∷ others) r read n w 73 0 (omega arith) (omega arith) refl, or-false)
 
   pub no-block-map : r .map ≡ false → lastValue identifierKey s ≡ broken
   unfolding position codeOf big little
-  no-block-map = no-letter s blockKeys r read n w 73 0 (omega arith) (omega arith) refl
+  no-block-map = no-letter s (0x149 ∷ others) r read n w 73 0 (omega arith) (omega arith) refl
 
 -- ---- a version, and a version delete: the fourth key asked for is its own, the others an identifier's
 

@@ -1,7 +1,7 @@
 -- What the answers of the code say: the contents of a part at the places told.
 use Prim.Native.Nat.{ℕ, _+_}
 use mathlib.Core.Bool.{Bool}
-use mathlib.Core.List.{List}
+use mathlib.Core.List.{List, [], _∷_}
 use mathlib.Core.Option.{Option, none, some}
 use mathlib.Core.Path.{_≡_}
 use lib.ListN.{getD}
@@ -10,7 +10,8 @@ use Rattle.slices.specs.declared.Place.{Place}
 use Rattle.refusals.specs.Answers.{Answer, refused, result}
 use Rattle.msgpack.specs.Readers.{Part}
 use Rattle.msgpack.specs.Lookup.{lastValue}
-use Rattle.msgpack.specs.Pairs.{placeTold}
+use Rattle.msgpack.specs.Pairs.{placeTold, PairsRead}
+use Rattle.msgpack.specs.declared.Pairs.{Pairs}
 use Rattle.identifier.specs.Identity.{Identity, identity}
 use Rattle.primary.specs.Parts.{ulidKey, bucketKey, objectKey, Version, VersionDelete}
 use Rattle.primary.specs.declared.Texts.{Texts}
@@ -98,3 +99,14 @@ pub record IdentifierAt (m places : List ℕ) : Type 0 where
   pub ulid : lastValue ulidKey m ≡ placeTold (getD places 0 0)
   pub bucket : lastValue bucketKey m ≡ placeTold (getD places 1 0)
   pub object : lastValue objectKey m ≡ placeTold (getD places 2 0)
+
+-- ---- the keys asked for in a block's part, by their codes
+
+-- `I`, and one beside it
+abbrev pub besideBlock : ℕ → List ℕ
+besideBlock code = 0x149 ∷ code ∷ 0 ∷ 0 ∷ 0 ∷ 0 ∷ 0 ∷ 0 ∷ []
+
+-- what one pass over the part told, `I` being asked for first
+pub record BlockPairs (s : List ℕ) (r : Pairs) : Type 0 where
+  pub others : List ℕ
+  pub read : PairsRead s (0x149 ∷ others) r

@@ -10,16 +10,17 @@ ghost use Rattle.refusals.specs.Answers.{result, orRefused};
 ghost use Rattle.msgpack.specs.Items.{passageOf, WholeItem};
 ghost use Rattle.msgpack.specs.Readers.{booleanOf, readBoolean, readText};
 ghost use Rattle.msgpack.specs.Lookup.{atPlace};
-ghost use Rattle.msgpack.specs.Pairs.{placeTold};
+ghost use Rattle.msgpack.specs.Pairs.{placeTold, PairsRead};
 ghost use Rattle.msgpack.specs.Views.{repeats, textAt, byteView};
 ghost use Rattle.identifier.specs.Identity.{isValid};
 ghost use Rattle.identifier.specs.Ulid.{isUlid};
 ghost use Rattle.identifier.specs.Composite.{identityIn};
 ghost use Rattle.primary.specs.Parts.{isOfLength, identityKeys, textsUnder, shapeOf, shapeAt, valid, blockBy, block, version, versionDelete};
-ghost use Rattle.primary.specs.Answers.{numberOf, IdentifierAt, textsIn, textOf, placedAt, placeOf, textsOf, blockOf, versionOf, versionDeleteOf, AllInside, TextInside, TextsInside, BlockInside, VersionInside, DeleteInside};
+ghost use Rattle.primary.specs.Answers.{numberOf, BlockPairs, besideBlock, IdentifierAt, textsIn, textOf, placedAt, placeOf, textsOf, blockOf, versionOf, versionDeleteOf, AllInside, TextInside, TextsInside, BlockInside, VersionInside, DeleteInside};
 use identifier::Split;
 use msgpack::Boolean;
 use msgpack::Content;
+use msgpack::Pairs;
 use msgpack::Passed;
 use slices::Place;
 
@@ -257,12 +258,12 @@ fn identifier_at(part: &[u8], at: usize, repeated: bool) -> BlockRead
     }
 }
 
-// The primary part of a block.
-pub fn read_block(part: &[u8]) -> BlockRead
+// The identifier of a block, by what one pass over the part told of its keys, `I` first.
+fn block_by(part: &[u8], pairs: Pairs) -> BlockRead
+    requires { ⌜ BlockPairs (now part) pairs ⌝ }
     ensures { λ r. ⌜ blockOf (now (part .entry)) r ≡ block (now (part .entry)) ⌝ }
     ensures inside { λ r. ⌜ BlockInside (now (part .entry)) r ⌝ }
 {
-    let pairs = msgpack::read_pairs(part, BLOCK_KEYS);
     let passed = pairs.passed;
     if !fills(passed, part.len()) {
         return BlockRead::Fault(Fault::NotWhole);
@@ -277,6 +278,34 @@ pub fn read_block(part: &[u8]) -> BlockRead
     }
     let repeated = pairs.repeated;
     identifier_at(part, at, repeated[0])
+}
+
+// The primary part of a block.
+pub fn read_block(part: &[u8]) -> BlockRead
+    ensures { λ r. ⌜ blockOf (now (part .entry)) r ≡ block (now (part .entry)) ⌝ }
+    ensures inside { λ r. ⌜ BlockInside (now (part .entry)) r ⌝ }
+{
+    block_by(part, msgpack::read_pairs(part, BLOCK_KEYS))
+}
+
+// What a block's reader tells of a part, and what the same pass tells of the part's map: of `I`, and of
+// the key that was asked for beside it.
+pub struct BlockBeside {
+    pub block: BlockRead,
+    pub pairs: Pairs,
+}
+
+// The primary part of a block, with the key that has this code.
+pub fn read_block_beside(part: &[u8], code: u64) -> BlockBeside
+    ensures { λ r. ⌜ blockOf (now (part .entry)) (r .block) ≡ block (now (part .entry)) ⌝ }
+    ensures inside { λ r. ⌜ BlockInside (now (part .entry)) (r .block) ⌝ }
+    ensures beside { λ r. ⌜ PairsRead (now (part .entry)) (besideBlock code) (r .pairs) ⌝ }
+{
+    let pairs = msgpack::read_pairs(part, [0x149, code, 0, 0, 0, 0, 0, 0]);
+    BlockBeside {
+        block: block_by(part, pairs),
+        pairs,
+    }
 }
 
 // The delete flag of a version's map, by the place told of its key; absent means false.

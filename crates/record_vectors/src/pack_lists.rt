@@ -2,8 +2,8 @@
 use crate::show;
 use crate::show::say_number;
 use crate::show::say_refusal;
+use block_of_byte::Found;
 use pack_list::Entry;
-use pack_list::Found;
 use pack_list::NextEntry;
 use pack_list::Numbers;
 use pack_list::Range;
@@ -29,7 +29,7 @@ fn say_entries(s: &[u8], entries: Numbers) {
     let mut at = entries.first;
     let mut left = entries.count;
     while 0 < left {
-        let NextEntry::Entry(e, next) = pack_list::next_entry(s, at) else {
+        let NextEntry::Entry(e, _, next) = pack_list::next_entry(s, at) else {
             return;
         };
         say_entry(s, e);
@@ -59,7 +59,7 @@ fn say_stored(s: &[u8], e: Entry, stored: Range) {
 
 // Where a byte of the version stands.
 pub(crate) fn found(s: &[u8], byte: usize) {
-    match pack_list::find(s, byte as u64) {
+    match block_of_byte::find(s, byte as u64) {
         Found::Nowhere => show::say(b" none"),
         Found::Entry(number, e) => {
             say_number(b'P', number);

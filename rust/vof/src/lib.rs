@@ -334,7 +334,7 @@ pub struct Line {
 }
 
 /// An entry of a pack list: a range of the version's data, and where it is stored in which pack, in so many
-/// blocks.
+/// blocks: one for each length that is listed, and one more where these leave a rest of the stored range.
 #[derive(Clone, Copy, Debug, PartialEq, Eq)]
 pub struct PackEntry<'a> {
     /// The pack's.

@@ -17,7 +17,7 @@ pub struct Entry<'a> {
     pub pack: Span<'a>,
     pub source: Range,
     pub stored: Range,
-    /// Of all blocks but the last.
+    /// Of all blocks that are listed: all, or all but the last.
     lengths: Vec<u64>,
     /// Of every block, from the stride.
     deltas: Vec<i128>,
@@ -125,8 +125,10 @@ fn total(lengths: &[u64]) -> u128 {
 }
 
 impl Entry<'_> {
+    /// Those listed, and one more where these do not fill the pack's range.
     pub fn blocks(&self) -> usize {
-        self.lengths.len() + 1
+        let missing = total(&self.lengths) < u128::from(self.stored.length);
+        self.lengths.len() + usize::from(missing)
     }
 
     /// 0 for a block that has none, and none past the last block.
@@ -141,14 +143,15 @@ impl Entry<'_> {
             && total(&self.lengths) <= u128::from(self.stored.length)
     }
 
-    /// Whether 64 bits hold the sums of its deltas.
+    /// Whether it has a block, and 64 bits hold the sums of its deltas.
     fn is_counted(&self) -> bool {
         let sum = |sign: i128| -> u128 {
             let magnitudes = self.deltas.iter().map(|delta| (sign * delta).max(0));
             magnitudes.map(|magnitude| magnitude as u128).sum()
         };
         let most = u128::from(u64::MAX);
-        sum(1) <= most && u128::from(self.source.length) + sum(-1) <= most
+        let held = sum(1) <= most && u128::from(self.source.length) + sum(-1) <= most;
+        self.blocks() > 0 && held
     }
 
     /// Whether its blocks hold the source range by this stride.
@@ -157,7 +160,8 @@ impl Entry<'_> {
         self.blocks() as i128 * stride + deltas >= i128::from(self.source.length)
     }
 
-    /// The source length of each block; None where one is below 0, or the sums are not held.
+    /// The source length of each block; None where one is below 0, there is none, or the sums are not
+    /// held.
     fn source_lengths(&self, stride: i128) -> Option<Vec<u64>> {
         if !self.is_counted() {
             return None;
@@ -171,8 +175,11 @@ impl Entry<'_> {
 
     /// The stored length of each block.
     fn stored_lengths(&self) -> Vec<u64> {
-        let last = u128::from(self.stored.length) - total(&self.lengths);
-        [&self.lengths[..], &[last as u64]].concat()
+        let mut lengths = self.lengths.clone();
+        if lengths.len() < self.blocks() {
+            lengths.push(self.stored.length - total(&self.lengths) as u64);
+        }
+        lengths
     }
 
     /// The block with the byte at this offset of the source range, and its range of the pack.

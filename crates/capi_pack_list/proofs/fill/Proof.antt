@@ -4,7 +4,7 @@ use Prim.Native.Nat.{_-_, _<_}
 use native.Mathlib.Omega.{arith}
 use Rattle.slices.specs.Bytes.{AllBytes}
 use Rattle.pack_list.specs.Walks.{walk-start}
-use Rattle.capi_pack_list.proofs.ListWords.{count-few, FilledTo, starts, not-missing, blocks-few, goes-on, ends}
+use Rattle.capi_pack_list.proofs.ListWords.{count-few, FilledTo, starts, not-missing, goes-on, ends}
 use Rattle.capi_pack_list.proofs.fill.Statement.{statement}
 use Rattle.capi_pack_list.proofs.fill.Tie as tie
 
@@ -51,14 +51,6 @@ returns c =
     absurd
     (not-missing _ _ _ (start-of d .pre .1) _ _ _ (turn d .loop .inv) (more d) (next .result) (next .ensures .0) (next .ensures .1) (c .enum-told .given .1))
 
-add-blocks : tie.Need-add-blocks Inv-loop μ-loop
-add-blocks c =
-    let e = c .before .before .before in
-    let d = e .before .before in
-    let next = d .next-entry in
-    let few = blocks-few _ _ _ (start-of d .pre .1) _ _ _ (turn d .loop .inv) (more d) (next .result) (next .ensures .0) (next .ensures .1) _ _ (e .e .given .1) (bytes d) in
-    omega arith
-
 mul-store : tie.Need-mul-store Inv-loop μ-loop
 mul-store c =
     let d = c .before .before .before .before .before .before in
@@ -81,7 +73,7 @@ loop-again c =
     let e = c .before .before .before .before .before .before .before .before in
     let d = e .before .before in
     let next = d .next-entry in
-    goes-on _ _ _ (start-of d .pre .1) _ _ _ (turn d .loop .inv) (more d) (next .result) (next .ensures .0) (next .ensures .1) _ _ (e .e .given .1) _
+    goes-on _ _ _ (start-of d .pre .1) _ _ _ (turn d .loop .inv) (more d) (next .result) (next .ensures .0) (next .ensures .1) _ _ _ (e .e .given .1) _
     (c .before .before .store .ensures .1)
 
 same-length-2 : tie.Need-same-length-2 Inv-loop μ-loop
@@ -104,7 +96,6 @@ fill-spec =
     enum-told
     same-length
     returns
-    add-blocks
     mul-store
     slice-aggregate-store
     store-requires

@@ -2,7 +2,7 @@
 use mathlib.Core.Path.{ap, _∙_}
 use native.Mathlib.Omega.{arith}
 use borrow.Author.Needs.{needs}
-use Rattle.pack_list.specs.Answers.{foundOf}
+use Rattle.block_of_byte.specs.Answers.{foundOf}
 use Rattle.capi_pack_list.proofs.PackLists.{find-refused, found-nowhere, found-entry, found-block}
 use Rattle.capi_pack_list.proofs.vof_find_block.Statement.{statement}
 use Rattle.capi_pack_list.proofs.vof_find_block.Tie as tie

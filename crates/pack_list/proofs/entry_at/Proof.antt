@@ -3,13 +3,14 @@ use borrow.Author.Needs.{needs}
 use Prim.Native.Nat.{ℕ, _≤_}
 use mathlib.Core.List.{List}
 use mathlib.Core.Option.{none}
-use mathlib.Core.Path.{refl, subst}
+use mathlib.Core.Path.{refl, sym, ap, subst, _∙_}
 use native.Mathlib.Omega.{arith}
 use borrow.Author.Tests.{not-true, not-false}
 use lib.ListN.{length, drop, length-drop}
 use Rattle.msgpack.specs.Items.{depthAllowed}
 use Rattle.msgpack.specs.Pairs.{PairsRead}
 use Rattle.msgpack.specs.PassingLaws.{bounded}
+use Rattle.msgpack.specs.Views.{sizeOf}
 use Rattle.pack_list.proofs.Keys.{entryCodes, entry-places, no-entry-map}
 use Rattle.pack_list.proofs.Entries.{pack-broken, no-entry-told, none-inside}
 use Rattle.pack_list.proofs.entry_at.Statement.{statement}
@@ -34,45 +35,49 @@ returns c =
     let broken = no-entry-map _ _ (pairs-read p) (a .pre) (not-true _ (c .if1 .taken)) in
     (no-entry-told _ none _ _ _ _ (pack-broken _ broken) refl refl refl refl refl, none-inside _ _)
 
-array-read-t11 : tie.Need-array-read-t11
-array-read-t11 c = search needs
+size-of-requires : tie.Need-size-of-requires
+size-of-requires c κs = search needs
 
-array-read-t14 : tie.Need-array-read-t14
-array-read-t14 c = search needs
+array-read-t13 : tie.Need-array-read-t13
+array-read-t13 c = search needs
 
-array-read-t17 : tie.Need-array-read-t17
-array-read-t17 c = search needs
+array-read-t16 : tie.Need-array-read-t16
+array-read-t16 c = search needs
 
-array-read-t20 : tie.Need-array-read-t20
-array-read-t20 c = search needs
+array-read-t19 : tie.Need-array-read-t19
+array-read-t19 c = search needs
 
-array-read-t23 : tie.Need-array-read-t23
-array-read-t23 c = search needs
+array-read-t22 : tie.Need-array-read-t22
+array-read-t22 c = search needs
 
-array-read-t8 : tie.Need-array-read-t8
-array-read-t8 c = search needs
+array-read-t25 : tie.Need-array-read-t25
+array-read-t25 c = search needs
 
-array-read-t28 : tie.Need-array-read-t28
-array-read-t28 c = search needs
+array-read-t10 : tie.Need-array-read-t10
+array-read-t10 c = search needs
 
-array-read-t32 : tie.Need-array-read-t32
-array-read-t32 c = search needs
+array-read-t30 : tie.Need-array-read-t30
+array-read-t30 c = search needs
 
-array-read-t36 : tie.Need-array-read-t36
-array-read-t36 c = search needs
+array-read-t34 : tie.Need-array-read-t34
+array-read-t34 c = search needs
 
-array-read-t40 : tie.Need-array-read-t40
-array-read-t40 c = search needs
+array-read-t38 : tie.Need-array-read-t38
+array-read-t38 c = search needs
+
+array-read-t42 : tie.Need-array-read-t42
+array-read-t42 c = search needs
 
 entry-by-requires : tie.Need-entry-by-requires
 entry-by-requires c κs =
-    let e = c .before .before in
+    let e = c .before .before .before in
     let p = e .before .before in
     let a = p .before .before .before in
     let taken = bounded depthAllowed (map-at a) (a .pre .size) (a .pre .is) in
     let before-end : a .args .at ≤ length (a .args .part .now) =
     omega (arith, taken .some-byte, taken .within, length-drop (a .args .at) (a .args .part .now)) in
-    (before-end, entry-places _ _ (pairs-read p) (a .pre) (not-false _ (e .if1 .left)))
+    let sized = sym (c .before .before .size-of .ensures ∙ ap sizeOf (pairs-read p .passed)) in
+    (before-end, entry-places _ _ (pairs-read p) (a .pre) _ sized (not-false _ (e .if1 .left)))
 
 returns-2 : tie.Need-returns-2
 returns-2 c = search needs
@@ -84,15 +89,16 @@ entry-at-spec =
     from-requires
     read-pairs-requires
     returns
-    array-read-t11
-    array-read-t14
-    array-read-t17
-    array-read-t20
-    array-read-t23
-    array-read-t8
-    array-read-t28
-    array-read-t32
-    array-read-t36
-    array-read-t40
+    size-of-requires
+    array-read-t13
+    array-read-t16
+    array-read-t19
+    array-read-t22
+    array-read-t25
+    array-read-t10
+    array-read-t30
+    array-read-t34
+    array-read-t38
+    array-read-t42
     entry-by-requires
     returns-2)

@@ -17,7 +17,7 @@ use Rattle.value.specs.Fields.{readNatural}
 use Rattle.pack_list.specs.Lists.{packKey, sourceKey, storedKey, lengthsKey, deltasKey, eachOf}
 use Rattle.pack_list.specs.Answers.{rangeOf, rangeTold, itemsIn, numbersOf, packPlace}
 use Rattle.pack_list.proofs.Ranges.{read-told}
-use Rattle.pack_list.proofs.Entries.{value-at, no-pack, pack-read, pack-placed, RangeUnder, range-under, no-range-under, list-under, lengthsUnder, deltasUnder, no-entry-told, no-deltas-told, entry-told, entry-inside, none-inside}
+use Rattle.pack_list.proofs.Entries.{value-at, no-pack, pack-read, pack-placed, RangeUnder, range-under, no-range-under, list-under, lengthsUnder, deltasUnder, no-entry-told, no-deltas-told, entry-told, numbers-placed, entry-inside, none-inside}
 use Rattle.pack_list.proofs.entry_by.Statement.{statement}
 use Rattle.pack_list.proofs.entry_by.Tie as tie
 
@@ -208,7 +208,7 @@ deltas c =
 tested-requires : tie.Need-tested-requires
 tested-requires c κs =
     let k = c .before .before .before .before .before in
-    k .before .before .before .numbers-under .ensures .1 .whole _ (k .before .lengths .given .1)
+    k .before .before .before .numbers-under .ensures .1 .0 .whole _ (k .before .lengths .given .1)
 
 returns-7 : tie.Need-returns-7
 returns-7 c =
@@ -218,9 +218,15 @@ returns-7 c =
     let o = n .before .before .before .before in
     let p = o .before .before .before .before in
     let a = at-pack (p .before .before .before) in
-    let told = entry-told (bytes a) (map-at a) _ (a .args .places .repeated) _ _ (pack p) (source o) (stored n) (lengths l) (deltas k) (a .pre .1 .repeated) in
+    let told = entry-told (bytes a) (map-at a) _ (a .args .places .repeated) _ _ (pack p) (source o) (stored n) (lengths l) (deltas k) (a .pre .1 .repeated) _ (a .pre .1 .size) in
     let place = sym (ap placeOf (p .before .pack .given .1)) ∙ place-read (p .before .before .before) in
-    (c .tested .ensures .0 ∙ told, entry-inside _ _ _ _ (c .tested .ensures .1) place)
+    let lengths-placed =
+    numbers-placed lengthsKey (bytes a) (a .args .at) (a .args .places .lengths) (a .pre .1 .lengths) _ (l .before .before .before .numbers-under .ensures .1 .1) _
+    (l .before .lengths .given .1) in
+    let deltas-placed =
+    numbers-placed deltasKey (bytes a) (a .args .at) (a .args .places .deltas) (a .pre .1 .deltas) _ (k .before .before .before .numbers-under2 .ensures .1 .1) _
+    (k .before .deltas .given .1) in
+    (c .tested .ensures .0 ∙ told, entry-inside _ _ _ _ (c .tested .ensures .1) place lengths-placed deltas-placed)
 
 pub entry-by-spec : {M : Type 1} → statement M
 entry-by-spec =

@@ -8,7 +8,8 @@ use Rattle.msgpack.specs.Lookup.{over}
 use Rattle.msgpack.specs.Views.{itemsFrom}
 use Rattle.value.specs.Fields.{readNatural}
 use Rattle.pack_list.specs.Lists.{eachOf}
-use Rattle.pack_list.proofs.Arrays.{withinFrom, length-more, no-length, lengths-all}
+use Rattle.pack_list.specs.Answers.{withinFrom}
+use Rattle.pack_list.proofs.Arrays.{length-more, no-length, lengths-all}
 use Rattle.pack_list.proofs.lengths_within.Statement.{statement}
 use Rattle.pack_list.proofs.lengths_within.Tie as tie
 
@@ -41,7 +42,6 @@ number-read : (c : tie.After-natural-at Inv-loop μ-loop)
 number-read c = c .natural-at .ensures ∙ ap readNatural (c .before .from .ensures .0)
 
 returns : tie.Need-returns Inv-loop μ-loop
-unfolding withinFrom
 returns c =
     let r = c .before .before in
     let l = r .before .before .before .loop in
@@ -68,7 +68,6 @@ loop-again c =
     rw (c .before .less .ensures, c .after .ensures) (l .inv ∙ length-more _ (l .at) (l .count) (l .within) (l .left) (omega arith) _ read)
 
 returns-2 : tie.Need-returns-2 Inv-loop μ-loop
-unfolding withinFrom
 returns-2 c =
     let l = c .before in
     let none-left : l .loop .count ≡ 0 = omega arith in

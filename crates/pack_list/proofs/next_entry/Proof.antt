@@ -8,7 +8,7 @@ use lib.ListN.{drop, length-drop}
 use Rattle.msgpack.specs.Items.{whole, passageOf, depthAllowed, passOver}
 use Rattle.msgpack.specs.PassingLaws.{bounded}
 use Rattle.pack_list.specs.Answers.{toldIn, nextEntry}
-use Rattle.pack_list.proofs.Entries.{next-inside, no-next, told-entry, told-none}
+use Rattle.pack_list.proofs.Entries.{next-inside, no-next, told-entry, told-none, tests-tell}
 use Rattle.pack_list.proofs.next_entry.Statement.{statement}
 use Rattle.pack_list.proofs.next_entry.Tie as tie
 
@@ -37,8 +37,8 @@ entry-at-requires c κs = record { size = _; is = item-whole c }
 enum-known-e : tie.Need-enum-known-e
 enum-known-e c = search needs
 
-add-t10 : tie.Need-add-t10
-add-t10 c =
+add-t11 : tie.Need-add-t11
+add-t11 c =
     let k = c .before .before .before .before in
     let a = k .before .before .before .before .before .before in
     let taken = bounded depthAllowed (item-at a) _ (item-whole k) in
@@ -59,8 +59,12 @@ returns c =
     let d = c .before .before .before in
     let k = d .before in
     let a = k .before .before .before .before .before .before in
-    let e = told-entry (a .args .part .now) (item-at a) _ _ (sym (ap (toldIn (a .args .part .now)) (c .before .e .given .1)) ∙ d .entry-at .ensures .0) in
-    (rw (item-whole k, e), next-inside _ _ _ _ (d .entry-at .ensures .1 .here _ _ (c .before .e .given .1)))
+    let told = sym (ap (toldIn (a .args .part .now)) (c .before .e .given .1)) ∙ d .entry-at .ensures .0 in
+    let e = told-entry (a .args .part .now) (item-at a) _ _ told in (
+      rw (item-whole k, e),
+      next-inside _ _ _ _ _ (d .entry-at .ensures .1 .here _ _ (c .before .e .given .1))
+          (λ x q. tests-tell (a .args .part .now) (item-at a) _ _ x told q .blocks),
+    )
 
 returns-2 : tie.Need-returns-2
 unfolding nextEntry
@@ -88,7 +92,7 @@ next-entry-spec =
     enum-known-n
     entry-at-requires
     enum-known-e
-    add-t10
+    add-t11
     enum-told
     enum-told-2
     enum-told-3

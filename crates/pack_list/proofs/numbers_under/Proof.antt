@@ -10,7 +10,7 @@ use Rattle.msgpack.specs.Formats.{arrayKind}
 use Rattle.msgpack.specs.Readers.{counted, readArray, countedOf}
 use Rattle.msgpack.specs.ReaderLaws.{head-inside}
 use Rattle.msgpack.specs.Views.{itemsFrom}
-use Rattle.pack_list.proofs.Arrays.{numbers-inside, no-numbers, none-whole, array-found, no-array, array-found-whole}
+use Rattle.pack_list.proofs.Arrays.{numbers-inside, no-numbers, none-whole, array-found, no-array, array-found-whole, array-placed, no-array-placed}
 use Rattle.pack_list.proofs.numbers_under.Statement.{statement}
 use Rattle.pack_list.proofs.numbers_under.Tie as tie
 
@@ -18,7 +18,7 @@ returns : tie.Need-returns
 unfolding itemsFrom
 returns c =
     let a = c .before .before in
-    (rw (c .if1 .taken), numbers-inside _ _ (a .pre .0) (none-whole _))
+    (rw (c .if1 .taken), (numbers-inside _ _ (a .pre .0) (none-whole _), rw (c .if1 .taken)))
 
 abbrev place-of : tie.Start → ℕ
 place-of a = a .args .at + a .args .place
@@ -71,15 +71,18 @@ returns-2 c =
     let e = c .before .before .before .before .before in
     let a = e .before .before in
     let r = a .args in
-    let whole = array-found-whole (r .part .now) (r .at) (r .place) (e .if1 .left) _ (items-read c) (a .pre .1 .whole (e .if1 .left)) in
-    (array-found (r .part .now) (r .at) (r .place) (e .if1 .left) _ (items-read c), numbers-inside _ _ (head-ends c) whole)
+    let whole = array-found-whole (r .part .now) (r .at) (r .place) (e .if1 .left) _ (items-read c) (a .pre .1 .whole (e .if1 .left)) in (
+      array-found (r .part .now) (r .at) (r .place) (e .if1 .left) _ (items-read c),
+      (numbers-inside _ _ (head-ends c) whole, array-placed (r .part .now) (r .at) (r .place) (e .if1 .left) _ (items-read c)),
+    )
 
 returns-3 : tie.Need-returns-3
 returns-3 c =
     let r = c .before .before in
     let e = r .before .before in
     let a = e .before .before .args in
-    (no-array (a .part .now) (a .at) (a .place) (e .if1 .left) (sym (array-read r) ∙ ap countedOf (c .enum-told .given .1)), no-numbers _)
+    let nothing = sym (array-read r) ∙ ap countedOf (c .enum-told .given .1) in
+    (no-array (a .part .now) (a .at) (a .place) (e .if1 .left) nothing, (no-numbers _, no-array-placed (a .part .now) (a .at) (a .place) (e .if1 .left) nothing))
 
 pub numbers-under-spec : {M : Type 1} → statement M
 numbers-under-spec =

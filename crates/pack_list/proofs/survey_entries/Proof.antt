@@ -1,10 +1,10 @@
 -- `pack_list::survey_entries` meets its contract: what all entries tell is what those from a place on tell, after those before it.
 use borrow.Author.Needs.{needs}
 use Prim.Native.Nat.{_-_}
-use mathlib.Core.Path.{sym, ap, _∙_}
+use mathlib.Core.Path.{refl, sym, ap, _∙_}
 use native.Mathlib.Omega.{arith}
 use Rattle.pack_list.specs.Answers.{toldIn}
-use Rattle.pack_list.proofs.Surveys.{SurveyedTo, none-surveyed, surveyed-all, entry-whole, entry-missing, one-surveyed}
+use Rattle.pack_list.proofs.Surveys.{SurveyedTo, none-surveyed, surveyed-all, entry-whole, entry-missing, entry-ends, one-surveyed}
 use Rattle.pack_list.proofs.survey_entries.Statement.{statement}
 use Rattle.pack_list.proofs.survey_entries.Tie as tie
 
@@ -41,8 +41,14 @@ holds-requires c κs = search needs
 with-holder-requires : tie.Need-with-holder-requires Inv-loop μ-loop
 with-holder-requires c κs = search needs
 
-after-requires : tie.Need-after-requires Inv-loop μ-loop
-after-requires c κs = search needs
+add-at : tie.Need-add-at Inv-loop μ-loop
+add-at c =
+    let r = c .before .before .before .before .before .before .before in
+    let e = c .before .before .before .before .before .e .given in
+    let l = r .before .before .before .loop in
+    let told = sym (ap (toldIn _) (e .1)) ∙ r .entry-at .ensures .0 in
+    let there = r .entry-at .ensures .1 .here _ _ (e .1) .there in
+    omega (arith, entry-ends _ _ _ (l .at) (l .k) (l .all) (l .holder) (l .inv) (omega arith) (e .0 .0) (e .0 .1 .0) told there)
 
 add-k : tie.Need-add-k Inv-loop μ-loop
 add-k c = omega arith
@@ -52,14 +58,13 @@ loop-less c = omega arith
 
 loop-again : tie.Need-loop-again Inv-loop μ-loop
 loop-again c =
-    let h = c .before .before in
-    let r = h .before .before .before .before .before in
-    let e = h .before .before .before .e .given in
+    let r = c .before .before .before .before .before .before .before in
+    let e = c .before .before .before .before .before .e .given in
     let l = r .before .before .before .loop in
     let told = sym (ap (toldIn _) (e .1)) ∙ r .entry-at .ensures .0 in
-    let there = r .entry-at .ensures .1 .here _ _ (e .1) .there in
-    one-surveyed _ _ _ (l .at) (l .k) (l .all) (l .holder) (l .inv) (omega arith) (e .0 .0) (e .0 .1 .0) told there _ (h .before .with-entry .ensures)
-    _ (c .before .with-holder .ensures ∙ rw (h .holds .ensures)) _ (c .after .ensures)
+    let here = r .entry-at .ensures .1 .here _ _ (e .1) in
+    one-surveyed _ _ _ (l .at) (l .k) (l .all) (l .holder) (l .inv) (omega arith) (e .0 .0) (e .0 .1 .0) told here _
+    (c .before .before .before .with-entry .ensures) _ (c .before .with-holder .ensures ∙ rw (c .before .before .holds .ensures)) _ refl
 
 returns-2 : tie.Need-returns-2 Inv-loop μ-loop
 returns-2 c = let l = c .before .before .loop in surveyed-all _ _ _ (l .at) (l .k) (l .all) (l .holder) (l .inv) (omega arith)
@@ -78,7 +83,7 @@ survey-entries-spec =
     with-entry-requires
     holds-requires
     with-holder-requires
-    after-requires
+    add-at
     add-k
     loop-less
     loop-again

@@ -27,7 +27,7 @@ returns : tie.Need-returns
 returns c =
     let l = c .before .before in
     let a = l .before .before .before .before .before .args in
-    (no-lengths _ (a .e) _ (none-told _ (a .e .stored .len) (sym (ap lengthsOf (c .enum-told .given .1)) ∙ l .lengths-within .ensures)), no-entry _ _)
+    (no-lengths _ (a .e) _ _ (none-told _ (a .e .stored .len) (sym (ap lengthsOf (c .enum-told .given .1)) ∙ l .lengths-within .ensures)), no-entry _ _)
 
 abbrev lengthsAt : tie.Start → Option (List ℕ)
 lengthsAt a = eachOf readNatural (itemsIn (a .args .part .now) (a .args .e .lengths))
@@ -35,13 +35,14 @@ lengthsAt a = eachOf readNatural (itemsIn (a .args .part .now) (a .args .e .leng
 lengths-told : (c : tie.After-known-told)
     → WithinTold (lengthsAt (c .before .before .before .before .before .before .before .before))
     (c .before .before .before .before .before .before .before .before .args .e .stored .len) (c .before .within .given .0 .0)
+    (c .before .within .given .0 .1 .0)
 lengths-told c =
     let l = c .before .before .before in
-    within-told _ _ _ (sym (ap lengthsOf (c .before .within .given .1)) ∙ l .lengths-within .ensures)
+    within-told _ _ _ _ (sym (ap lengthsOf (c .before .within .given .1)) ∙ l .lengths-within .ensures)
 
-add-blocks : tie.Need-add-blocks
-add-blocks c =
-    let a = c .before .before .before .before .before .before .before .before .before in
+with-rest-requires : tie.Need-with-rest-requires
+with-rest-requires c κs =
+    let a = c .before .before .before .before .before .before .before .before in
     omega (arith, items-fit _ _ (a .pre), length-drop (a .args .e .lengths .first) (a .args .part .now))
 
 deltas-summed-requires : tie.Need-deltas-summed-requires
@@ -57,7 +58,7 @@ returns-2 : tie.Need-returns-2
 returns-2 c =
     let d = c .before .before in
     let l = lengths-told (d .before .before) in
-    (no-deltas _ _ _ (l .lengths) (l .are) (d .deltas-summed .ensures .missing (c .enum-told2 .given .1)), no-entry _ _)
+    (no-deltas _ _ _ _ (l .lengths) (l .are) (d .deltas-summed .ensures .missing (c .enum-told2 .given .1)), no-entry _ _)
 
 part-requires : tie.Need-part-requires
 part-requires c κs = search needs
@@ -76,14 +77,14 @@ stride-for-requires c κs = search needs
 
 returns-3 : tie.Need-returns-3
 returns-3 c =
-    let u = c .before .before .before in
+    let u = c .before .before .before .before in
     let k = u .before .before in
     let d = k .before .before .before in
     let l = lengths-told (d .before .before) in
     let summed = d .deltas-summed .ensures .summed _ (k .before .sums .given .1) in
     let named = u .is-ulid .ensures ∙ ap isUlid (u .before .part .ensures .0) in (
-      entry-tested _ _ _ (l .lengths) (l .are) _ refl _ summed _ _ _ _ _ named (c .before .before .is-short .ensures) (c .before .is-short2 .ensures) (l .is)
-          (c .stride-for .ensures),
+      entry-tested _ _ _ _ (l .lengths) (l .are) _ (l .left) _ (d .before .with-rest .ensures) _ summed _ _ _ _ _ named
+          (c .before .before .before .is-short .ensures) (c .before .before .is-short2 .ensures) (l .is) (c .before .stride-for .ensures),
       same-entry _ _ _ (l .lengths) (summed .deltas) (l .are) (summed .are),
     )
 
@@ -95,7 +96,7 @@ tested-spec =
     enum-known-within
     enum-told
     returns
-    add-blocks
+    with-rest-requires
     deltas-summed-requires
     enum-known-sums
     enum-told-2

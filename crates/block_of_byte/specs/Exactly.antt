@@ -12,12 +12,14 @@ use lib.Dec.{ltb, leb}
 use lib.ListN.{length, getD, take}
 use Rattle.slices.specs.Logic.{absurd-numbers, clash, not-so, both}
 use Rattle.msgpack.specs.Lookup.{ifThere}
 use Rattle.pack_list.specs.Lists.{range, Entry, PackList, sum}
 use Rattle.pack_list.specs.declared.Range.{Range}
-use Rattle.pack_list.specs.Blocks.{blocks, stride, sources, storedLengths, blockFrom, Found, nowhere, inEntry, inBlock, foundBy, blockIn, holds, findFrom, find}
-use Rattle.pack_list.specs.declared.Block.{Block}
+use Rattle.pack_list.specs.Blocks.{blocks, storedLengths, stride, holds, holderFrom}
+use Rattle.block_of_byte.specs.Finding.{sources, blockFrom, Found, nowhere, inEntry, inBlock, foundBy, blockIn, foundIn, find}
+use Rattle.block_of_byte.specs.declared.Block.{Block}
 use Rattle.pack_list.specs.Stride.{Counted}
-use Rattle.pack_list.specs.Lengths.{IsSources, sources-exactly, NoSources, no-sources-exactly, there, stored-count, storedRange, Inside, stored-inside}
+use Rattle.pack_list.specs.Lengths.{storedRange, Inside, stored-inside}
+use Rattle.block_of_byte.specs.Sources.{IsSources, sources-exactly, NoSources, no-sources-exactly, there}
 
 -- ---- the block of an entry that holds a byte
 
@@ -127,9 +129,9 @@ module _ (s : ℕ) (e : Entry) (byte : ℕ) (here : Holds e byte) where
   abbrev offset : ℕ
   offset = byte - e .source .start
 
-  as-many : (ns : List ℕ) → IsSources s e ns → length ns ≡ length (storedLengths e)
+  as-many : (ns : List ℕ) → Counted e → IsSources s e ns → length ns ≡ length (storedLengths e)
   unfolding blocks
-  as-many ns i = i .count ∙ sym (stored-count e)
+  as-many ns c i = let n = i .count in let some-block = c .some-block in omega arith
 
   block-in : (b : Block) → blockIn s e byte ≡ some b → InBlock s e byte b
   unfolding blockIn blocks
@@ -147,7 +149,7 @@ module _ (s : ℕ) (e : Entry) (byte : ℕ) (here : Holds e byte) where
         lengths = ns;
         are-sources = c .1;
         is-block = record {
-          within = let w = at .within in let n = c .1 .count in omega arith;
+          within = let w = at .within in let n = as-many ns (c .0) (c .1) in omega arith;
           from = let f = at .from in omega arith;
           until = let u = at .until in omega arith;
           stored = λ i. record { start = at .starts i; len = at .long i };
@@ -161,10 +163,10 @@ module _ (s : ℕ) (e : Entry) (byte : ℕ) (here : Holds e byte) where
       let k = i .is-block in
       let least = here .least in
       rw (sources-exactly s e ns .1 (i .counted, i .are-sources))
-      (is-block 0 (e .stored .start) offset ns (storedLengths e) (b .number) b (as-many ns (i .are-sources))
+      (is-block 0 (e .stored .start) offset ns (storedLengths e) (b .number) b (as-many ns (i .counted) (i .are-sources))
       (record {
         counted = omega arith;
-        within = let w = k .within in let n = i .are-sources .count in omega arith;
+        within = let w = k .within in let n = as-many ns (i .counted) (i .are-sources) in omega arith;
         from = let f = k .from in omega arith;
         until = let u = k .until in omega arith;
         starts = ap (λ (r : Range). r .start) (k .stored);
@@ -181,11 +183,12 @@ module _ (s : ℕ) (e : Entry) (byte : ℕ) (here : Holds e byte) where
       go : (o : Option (List ℕ)) → sources s e ≡ o → (ifThere o λ ns. blockFrom 0 (e .stored .start) offset ns (storedLengths e)) ≡ none → o ≡ none
       go none f h = refl
       go (some ns) f h =
-          let i = sources-exactly s e ns .0 f .1 in
+          let c = sources-exactly s e ns .0 f in
+          let i = c .1 in
           let fill = i .fill in
           let least = here .least in
           let most = here .most in
-          absurd (block-there 0 (e .stored .start) offset ns (storedLengths e) (as-many ns i) (omega arith) h)
+          absurd (block-there 0 (e .stored .start) offset ns (storedLengths e) (as-many ns (c .0) i) (omega arith) h)
 
 -- ---- the answer for a byte
 
@@ -244,26 +247,26 @@ search-all (e ∷ es) byte = go (holds e byte) refl (search-all es byte)
           before = none-holds-behind e (i .front) byte h (i .before);
         })
 
-module _ (s byte : ℕ) where
+module _ (byte : ℕ) where
   -- entries in front that do not hold the byte are passed over
-  find-behind : (number : ℕ) (front rest : List Entry) → NoneHolds front byte
-      → findFrom s byte number (front ++ rest) ≡ findFrom s byte (number + length front) rest
-  unfolding findFrom
-  find-behind number [] rest h = let same : number + 0 ≡ number = omega arith in rw same
-  find-behind number (e ∷ front) rest h =
+  holder-behind : (number : ℕ) (front rest : List Entry) → NoneHolds front byte
+      → holderFrom byte number (front ++ rest) ≡ holderFrom byte (number + length front) rest
+  unfolding holderFrom
+  holder-behind number [] rest h = let same : number + 0 ≡ number = omega arith in rw same
+  holder-behind number (e ∷ front) rest h =
       let n = not-so (holds e byte) (λ t. h e (List·Memᴰ·head refl) (holds-is e byte t)) in
       let same : suc number + length front ≡ number + suc (length front) = omega arith in
-      rw n (find-behind (suc number) front rest (λ f m k. h f (List·Memᴰ·tail m) k) ∙ ap (λ k. findFrom s byte k rest) same)
+      rw n (holder-behind (suc number) front rest (λ f m k. h f (List·Memᴰ·tail m) k) ∙ ap (λ k. holderFrom byte k rest) same)
 
-  find-none : (es : List Entry) → NoneHolds es byte → findFrom s byte 0 es ≡ nowhere
-  unfolding findFrom
-  find-none es h = ap (findFrom s byte 0) (sym (append-nil es)) ∙ find-behind 0 es [] h
+  no-holder : (es : List Entry) → NoneHolds es byte → holderFrom byte 0 es ≡ none
+  unfolding holderFrom
+  no-holder es h = ap (holderFrom byte 0) (sym (append-nil es)) ∙ holder-behind 0 es [] h
 
-  find-first : (es : List Entry) (k : ℕ) (e : Entry) → IsFirst es byte k e → findFrom s byte 0 es ≡ foundBy k e (blockIn s e byte)
-  unfolding findFrom
-  find-first es k e i =
+  first-holder : (es : List Entry) (k : ℕ) (e : Entry) → IsFirst es byte k e → holderFrom byte 0 es ≡ some (k, e)
+  unfolding holderFrom
+  first-holder es k e i =
       let same : 0 + length (i .front) ≡ k = let p = i .place in omega arith in
-      ap (findFrom s byte 0) (i .cut) ∙ find-behind 0 (i .front) (e ∷ i .back) (i .before) ∙ rw (same, is-holds e byte (i .here))
+      ap (holderFrom byte 0) (i .cut) ∙ holder-behind 0 (i .front) (e ∷ i .back) (i .before) ∙ rw (same, is-holds e byte (i .here))
 
 module _ (l : PackList) (byte : ℕ) where
   abbrev s : ℕ
@@ -277,15 +280,15 @@ module _ (l : PackList) (byte : ℕ) where
       by k e i (some b) h = (i, in-block-exactly s e byte (i .here) b .0 h)
       by k e i none h = (i, no-block-exactly s e byte (i .here) .0 h)
 
-      go : Search (l .entries) byte → IsFound l byte (findFrom s byte 0 (l .entries))
-      go (none-found n) = subst (IsFound l byte) (sym (find-none s byte (l .entries) n)) n
-      go (first-found k e i) = subst (IsFound l byte) (sym (find-first s byte (l .entries) k e i)) (by k e i (blockIn s e byte) refl)
+      go : Search (l .entries) byte → IsFound l byte (foundIn s byte (holderFrom byte 0 (l .entries)))
+      go (none-found n) = subst (IsFound l byte) (sym (ap (foundIn s byte) (no-holder byte (l .entries) n))) n
+      go (first-found k e i) = subst (IsFound l byte) (sym (ap (foundIn s byte) (first-holder byte (l .entries) k e i))) (by k e i (blockIn s e byte) refl)
 
   is-find : (r : Found) → IsFound l byte r → find l byte ≡ r
   unfolding find
-  is-find nowhere h = find-none s byte (l .entries) h
-  is-find (inEntry k e) h = find-first s byte (l .entries) k e (h .0) ∙ ap (foundBy k e) (no-block-exactly s e byte (h .0 .here) .1 (h .1))
-  is-find (inBlock k e b) h = find-first s byte (l .entries) k e (h .0) ∙ ap (foundBy k e) (in-block-exactly s e byte (h .0 .here) b .1 (h .1))
+  is-find nowhere h = ap (foundIn s byte) (no-holder byte (l .entries) h)
+  is-find (inEntry k e) h = ap (foundIn s byte) (first-holder byte (l .entries) k e (h .0)) ∙ ap (foundBy k e) (no-block-exactly s e byte (h .0 .here) .1 (h .1))
+  is-find (inBlock k e b) h = ap (foundIn s byte) (first-holder byte (l .entries) k e (h .0)) ∙ ap (foundBy k e) (in-block-exactly s e byte (h .0 .here) b .1 (h .1))
 
   -- one answer, and it is this one
   pub find-exactly : (r : Found) → find l byte ≡ r ↔ IsFound l byte r

@@ -1,10 +1,10 @@
--- `pack_list::source_length` meets its contract: nothing is added before it is compared.
+-- `block_of_byte::source_length` meets its contract: nothing is added before it is compared.
 use borrow.Author.Needs.{needs}
 use Prim.Native.Nat.{_+_}
 use native.Mathlib.Omega.{arith}
 use borrow.Author.Tests.{le-leb, lt-leb}
-use Rattle.pack_list.proofs.source_length.Statement.{statement}
-use Rattle.pack_list.proofs.source_length.Tie as tie
+use Rattle.block_of_byte.proofs.source_length.Statement.{statement}
+use Rattle.block_of_byte.proofs.source_length.Tie as tie
 
 enum-known-delta : tie.Need-enum-known-delta
 enum-known-delta c = search needs

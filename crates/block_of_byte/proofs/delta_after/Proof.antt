@@ -1,8 +1,8 @@
--- `pack_list::delta_after` meets its contract.
+-- `block_of_byte::delta_after` meets its contract.
 use borrow.Author.Needs.{needs}
 use borrow.Author.Tests.{le-leb, lt-leb}
-use Rattle.pack_list.proofs.delta_after.Statement.{statement}
-use Rattle.pack_list.proofs.delta_after.Tie as tie
+use Rattle.block_of_byte.proofs.delta_after.Statement.{statement}
+use Rattle.block_of_byte.proofs.delta_after.Tie as tie
 
 returns : tie.Need-returns
 returns c = rw (le-leb _ _ (c .if1 .taken))

@@ -1,4 +1,4 @@
--- `pack_list::block_in` meets its contract: what all blocks tell is what those from the k-th on tell, after the block found before them.
+-- `block_of_byte::block_in` meets its contract: what all blocks tell is what those from the k-th on tell, after the block found before them.
 use borrow.Author.Needs.{needs}
 use Prim.Native.Nat.{ℕ, _-_}
 use mathlib.Core.Option.{Option, some}
@@ -7,21 +7,24 @@ use native.Mathlib.Omega.{arith}
 use lib.ListN.{drop}
 use Rattle.endian.specs.Places.{numberOf}
 use Rattle.value.specs.Fields.{readNatural}
-use Rattle.pack_list.specs.Answers.{lengthOf, movedBy, atMost}
-use Rattle.pack_list.proofs.Finding.{deltaRead, WalkedTo, length-there, length-fits, source-fits, stops, goes-on, ends, walk-starts, block-is}
-use Rattle.pack_list.proofs.block_in.Statement.{statement}
-use Rattle.pack_list.proofs.block_in.Tie as tie
+use Rattle.block_of_byte.specs.Answers.{lengthOf, movedBy, atMost}
+use Rattle.block_of_byte.proofs.Walking.{deltaRead, WalkedTo, length-there, length-fits, source-fits, stops, goes-on, ends, walk-starts, block-is}
+use Rattle.block_of_byte.proofs.block_in.Statement.{statement}
+use Rattle.block_of_byte.proofs.block_in.Tie as tie
 
 abbrev Inv-loop : tie.InvT-loop
-Inv-loop part stride offset lengths deltas start₀ stored₀ source₀ behind₀ at₀ delta₀ k₀ found₀ start stored source behind at delta k found =
-    WalkedTo part stride offset lengths deltas start₀ stored₀ source₀ start stored source behind at delta k found
+Inv-loop part blocks stride offset lengths deltas last start₀ stored₀ source₀ behind₀ at₀ delta₀ k₀ found₀ start stored source behind at delta k found =
+    WalkedTo part stride offset lengths deltas last start₀ stored₀ source₀ start stored source behind at delta k found
 
 abbrev μ-loop : tie.MeasureT-loop
-μ-loop part stride offset lengths deltas start₀ stored₀ source₀ behind₀ at₀ delta₀ k₀ found₀ start stored source behind at delta k found =
-    lengths .count - k
+μ-loop part blocks stride offset lengths deltas last start₀ stored₀ source₀ behind₀ at₀ delta₀ k₀ found₀ start stored source behind at delta k found =
+    last - k
+
+sub-last : tie.Need-sub-last Inv-loop μ-loop
+sub-last c = omega (arith, c .before .before .before .pre .some-block)
 
 loop-holds : tie.Need-loop-holds Inv-loop μ-loop
-loop-holds c = walk-starts _ _ _ _ (c .before .before .before .pre)
+loop-holds c = walk-starts _ _ _ _ _ (c .before .before .before .pre)
 
 from-requires : tie.Need-from-requires Inv-loop μ-loop
 from-requires c κs = search needs
@@ -58,7 +61,7 @@ returns : tie.Need-returns Inv-loop μ-loop
 returns c =
     let r = c .before .before in
     let l = in-loop r .loop in
-    absurd (length-there _ _ _ _ _ _ _ _ _ _ _ _ _ _ _ _ (l .inv) (omega arith) (read r ∙ ap numberOf (c .enum-told .given .1)))
+    absurd (length-there _ _ _ _ _ _ _ _ _ _ _ _ _ _ _ _ _ (l .inv) (omega arith) (read r ∙ ap numberOf (c .enum-told .given .1)))
 
 delta-at-requires : tie.Need-delta-at-requires Inv-loop μ-loop
 delta-at-requires c κs = search needs
@@ -94,8 +97,8 @@ returns-2 c =
     let d = c .before .before in
     let k = d .before .before in
     let l = of-length k .loop in
-    stops _ _ _ _ _ _ _ _ _ _ _ _ _ _ _ _ (l .inv) (omega arith) _ (length-read k) (sym (ap lengthOf (c .enum-told2 .given .1)) ∙ moved d)
-    ∙ sym (block-is _ _ _ _)
+    stops _ _ _ _ _ _ _ _ _ _ _ _ _ _ _ _ _ (l .inv) (omega arith) (sym (ap lengthOf (c .enum-told2 .given .1)) ∙ moved d)
+    ∙ sym (block-is _ _ _ _ _ (args (of-length k) .pre))
 
 noted-requires : tie.Need-noted-requires Inv-loop μ-loop
 noted-requires c κs = search needs
@@ -107,19 +110,19 @@ add-start : tie.Need-add-start Inv-loop μ-loop
 add-start c =
     let k = c .before .before .before .before .before .before .before in
     let l = of-length k .loop in
-    omega (arith, length-fits _ _ _ _ _ _ _ _ _ _ _ _ _ _ _ _ (l .inv) (omega arith) _ (length-read k), l .inv .end)
+    omega (arith, length-fits _ _ _ _ _ _ _ _ _ _ _ _ _ _ _ _ _ (l .inv) (omega arith) _ (length-read k), l .inv .end)
 
 sub-stored : tie.Need-sub-stored Inv-loop μ-loop
 sub-stored c =
     let k = c .before .before .before .before .before .before .before in
     let l = of-length k .loop in
-    length-fits _ _ _ _ _ _ _ _ _ _ _ _ _ _ _ _ (l .inv) (omega arith) _ (length-read k)
+    length-fits _ _ _ _ _ _ _ _ _ _ _ _ _ _ _ _ _ (l .inv) (omega arith) _ (length-read k)
 
 sub-source : tie.Need-sub-source Inv-loop μ-loop
 sub-source c =
     let n = c .before .before in
     let l = of-source (n .before .before .before) .loop in
-    source-fits _ _ _ _ _ _ _ _ _ _ _ _ _ _ _ _ (l .inv) (omega arith) _ (source-told n)
+    source-fits _ _ _ _ _ _ _ _ _ _ _ _ _ _ _ _ _ (l .inv) (omega arith) _ (source-told n)
 
 after-requires : tie.Need-after-requires Inv-loop μ-loop
 after-requires c κs = search needs
@@ -140,7 +143,7 @@ loop-again c =
     let l = of-length k .loop in
     let b = c .before .before .less .ensures in
     rw b
-    (goes-on _ _ _ _ _ _ _ _ _ _ _ _ _ _ _ _ (l .inv) (omega arith) _ _ (length-read k) (source-told n) _ (c .before .before .before .noted .ensures) _ _
+    (goes-on _ _ _ _ _ _ _ _ _ _ _ _ _ _ _ _ _ (l .inv) (omega arith) _ _ (length-read k) (source-told n) _ (c .before .before .before .noted .ensures) _ _
     (c .before .after .ensures) (c .delta-after .ensures))
 
 noted-requires-2 : tie.Need-noted-requires-2 Inv-loop μ-loop
@@ -149,7 +152,7 @@ noted-requires-2 c κs = search needs
 returns-3 : tie.Need-returns-3 Inv-loop μ-loop
 returns-3 c =
     let l = c .before .before .before .loop in
-    ends _ _ _ _ _ _ _ _ _ _ _ _ _ _ _ _ (l .inv) (omega arith) (c .noted2 .result) (c .noted2 .ensures) ∙ sym (block-is _ _ _ _)
+    ends _ _ _ _ _ _ _ _ _ _ _ _ _ _ _ _ _ (l .inv) (omega arith) (c .noted2 .result) (c .noted2 .ensures) ∙ sym (block-is _ _ _ _ _ (l .before .pre))
 
 pub block-in-spec : {M : Type 1} → statement M
 block-in-spec =
@@ -157,6 +160,7 @@ block-in-spec =
     (tie.spec
     Inv-loop
     μ-loop
+    sub-last
     loop-holds
     from-requires
     natural-at-requires

@@ -1,7 +1,7 @@
--- `pack_list::noted` meets its contract.
+-- `block_of_byte::noted` meets its contract.
 use borrow.Author.Needs.{needs}
-use Rattle.pack_list.proofs.noted.Statement.{statement}
-use Rattle.pack_list.proofs.noted.Tie as tie
+use Rattle.block_of_byte.proofs.noted.Statement.{statement}
+use Rattle.block_of_byte.proofs.noted.Tie as tie
 
 enum-known-found : tie.Need-enum-known-found
 enum-known-found c = search needs

@@ -1,10 +1,10 @@
--- `pack_list::delta_at` meets its contract.
+-- `block_of_byte::delta_at` meets its contract.
 use borrow.Author.Needs.{needs}
 use mathlib.Core.Path.{ap, _∙_}
 use borrow.Author.Tests.{le-leb, lt-leb}
 use Rattle.msgpack.specs.Readers.{readInteger}
-use Rattle.pack_list.proofs.delta_at.Statement.{statement}
-use Rattle.pack_list.proofs.delta_at.Tie as tie
+use Rattle.block_of_byte.proofs.delta_at.Statement.{statement}
+use Rattle.block_of_byte.proofs.delta_at.Tie as tie
 
 returns : tie.Need-returns
 returns c = rw (le-leb _ _ (c .if1 .taken))
