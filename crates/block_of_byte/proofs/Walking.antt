@@ -6,7 +6,7 @@ use mathlib.Core.Option.{Option, none, some}
 use mathlib.Core.Path.{_≡_, refl, sym, ap, subst, _∙_}
 use native.Mathlib.Numerals.{add-one}
 use native.Mathlib.Omega.{arith}
-use borrow.Author.Tests.{ltb-true, ltb-false, lt-ltb, leb-true, le-leb, leb-false}
+use borrow.Author.Tests.{ltb-true, ltb-false, lt-ltb, leb-true, le-leb, leb-false, lt-leb}
 use lib.Dec.{ltb, leb}
 use lib.ListN.{length, drop, length-drop}
 use Rattle.slices.specs.Logic.{absurd-numbers, both}
@@ -23,6 +23,7 @@ use Rattle.pack_list.specs.Stride.{counted-is}
 use Rattle.block_of_byte.specs.Finding.{moved, firstDelta, otherDeltas, sourcesFrom, sources, blockFrom, blockIn, foundIn, find}
 use Rattle.pack_list.specs.Reading.{filled-is}
 use Rattle.pack_list.specs.declared.Numbers.{Numbers}
+use Rattle.pack_list.specs.declared.Range.{Range}
 use Rattle.pack_list.specs.declared.Entry as placed
 use Rattle.pack_list.specs.declared.Held.{Held}
 use Rattle.pack_list.specs.declared.Holder.{Holder}
@@ -47,6 +48,10 @@ at-most-is left (some m) n e = go (leb m left) refl e
     go : (t : Bool) → leb m left ≡ t → cond t (some m) none ≡ some n → (some m ≡ some n) × (n ≤ left)
     go true l f = let same : m ≡ n = cc in (f, omega (arith, leb-true m left l))
     go false l f = absurd-numbers (cc)
+
+-- the length of the k-th block
+abbrev pub lengthRead : List ℕ → Numbers → ℕ → ℕ → Option ℕ
+lengthRead s lengths k at = cond (leb (lengths .count) k) none (readNatural (drop at s))
 
 -- the delta of the k-th block
 abbrev pub deltaRead : List ℕ → Numbers → ℕ → ℕ → Option Int
@@ -187,6 +192,9 @@ module _ (s : List ℕ) (stride offset : ℕ) (lengths deltas : Numbers) (last :
 
         first-length : FirstRead readNatural s at (lengths .count - k) (at + sizeOf (passOver (drop at s))) (w .ls)
         first-length = first-read readNatural s at (lengths .count - k) _ (w .ls) some-length refl (w .lengths-left)
+
+        pub length-read : (o : Option ℕ) → o ≡ lengthRead s lengths k at → readNatural (drop at s) ≡ o
+        length-read o e = sym (e ∙ rw (lt-leb (lengths .count) k (omega (arith, some-length))))
 
         one-more : last - k ≡ suc (last - (k + 1))
         one-more = omega arith
@@ -336,19 +344,22 @@ module _ (s : List ℕ) (byte : ℕ) (h : Held) (i : HeldIs s byte h) where
     pub offset-in : Offset s (h .entry) (h .blocks) (byte - h .entry .source .start)
     offset-in =
         let r = in-source in
+        let starts : h .entry .source .start ≡ held .source .start = ap (λ (x : Range). x .start) same-source in
         record {
           entry = held;
           is = i .here .is;
           filled = i .filled;
           as-many = i .here .as-many;
           some-block = omega (arith, i .here .as-many, counted-is held is-counted .some-block);
-          below = rw same-source (omega (arith, r .0, r .1));
+          below = omega (arith, starts, r .0, r .1);
         }
 
     module _ (stride : ℕ) (r : Option Block) (told : r ≡ ifThere (entryOf s (h .entry)) (blockAt stride (byte - h .entry .source .start))) where
       block-told : r ≡ blockIn stride held byte
       unfolding blockIn sources
-      block-told = told ∙ rw (i .here .is, is-counted, same-source)
+      block-told =
+          let from : byte - h .entry .source .start ≡ byte - held .source .start = ap (λ (x : Range). byte - x .start) same-source in
+          told ∙ ap (λ (k : ℕ). ifThere (entryOf s (h .entry)) (blockAt stride k)) from ∙ rw (i .here .is, is-counted)
 
       pub block-here : (b : Block) → r ≡ some b → foundOf s (found-answer.Block (h .number) (h .entry) b) ≡ result (foundIn stride byte (heldOf s h))
       block-here b q = rw (i .here .is, ← block-told, q)

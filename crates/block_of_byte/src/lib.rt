@@ -1,16 +1,18 @@
 // The block that holds a byte of a version, by its pack list: the first entry that holds the byte, and in it
 // the block, by the lengths of its blocks. They are read where they stand; nothing is copied.
 ghost use mathlib.Core.Bool.{cond};
-ghost use mathlib.Core.Option.{some};
+ghost use mathlib.Core.Option.{none, some};
 ghost use mathlib.Core.Path.{_≡_};
 ghost use Prim.Native.Nat.{_+_, _-_};
 ghost use lib.Dec.{leb};
 ghost use lib.ListN.{drop};
+ghost use Rattle.endian.specs.Places.{numberOf};
 ghost use Rattle.refusals.specs.Answers.{result};
 ghost use Rattle.msgpack.specs.Items.{passOver};
 ghost use Rattle.msgpack.specs.Readers.{plus, integerRead, readInteger};
 ghost use Rattle.msgpack.specs.Lookup.{ifThere};
 ghost use Rattle.msgpack.specs.Views.{sizeOf};
+ghost use Rattle.value.specs.Fields.{readNatural};
 ghost use Rattle.pack_list.specs.Answers.{entryOf, heldOf, HeldIs};
 ghost use Rattle.block_of_byte.specs.Finding.{foundIn};
 ghost use Rattle.block_of_byte.specs.Answers.{lengthOf, movedBy, atMost, blockOf, notedOf, blockAt, Offset, FoundStands, foundOf, findIn};
@@ -66,6 +68,16 @@ fn source_length(stride: u64, delta: Integer, left: u64) -> Length
         }
         Integer::Missing => Length::Below,
     }
+}
+
+// The k-th length that is listed, which stands at a place.
+fn length_at(part: &[u8], lengths: Numbers, k: usize, at: usize) -> Number
+    ensures { λ r. ⌜ numberOf r ≡ cond (leb (lengths .count) k) none (readNatural (drop at (now (part .entry)))) ⌝ }
+{
+    if lengths.count <= k {
+        return Number::Missing;
+    }
+    value::natural_at(slices::from(part, at))
 }
 
 // The k-th delta, which stands at a place, and 0 behind the last.
@@ -129,7 +141,7 @@ fn block_in(part: &[u8], e: Entry, blocks: usize, stride: u64, offset: u64) -> B
     let mut k = 0;
     let mut found = BlockFound::None;
     while k < last {
-        let Number::Read(len) = value::natural_at(slices::from(part, at)) else {
+        let Number::Read(len) = length_at(part, lengths, k, at) else {
             return BlockFound::None;
         };
         let Length::Of(n) = source_length(stride, delta_at(part, deltas, k, delta), source) else {

@@ -8,6 +8,7 @@ use lib.ListN.{drop}
 use Rattle.endian.specs.Places.{numberOf}
 use Rattle.value.specs.Fields.{readNatural}
 use Rattle.block_of_byte.specs.Answers.{lengthOf, movedBy, atMost}
+use Rattle.block_of_byte.proofs.Walking as walking
 use Rattle.block_of_byte.proofs.Walking.{deltaRead, WalkedTo, length-there, length-fits, source-fits, stops, goes-on, ends, walk-starts, block-is}
 use Rattle.block_of_byte.proofs.block_in.Statement.{statement}
 use Rattle.block_of_byte.proofs.block_in.Tie as tie
@@ -26,11 +27,8 @@ sub-last c = omega (arith, c .before .before .before .pre .some-block)
 loop-holds : tie.Need-loop-holds Inv-loop μ-loop
 loop-holds c = walk-starts _ _ _ _ _ (c .before .before .before .pre)
 
-from-requires : tie.Need-from-requires Inv-loop μ-loop
-from-requires c κs = search needs
-
-natural-at-requires : tie.Need-natural-at-requires Inv-loop μ-loop
-natural-at-requires c κs = search needs
+length-at-requires : tie.Need-length-at-requires Inv-loop μ-loop
+length-at-requires c κs = search needs
 
 enum-known-len : tie.Need-enum-known-len Inv-loop μ-loop
 enum-known-len c = search needs
@@ -39,16 +37,18 @@ enum-told : tie.Need-enum-told Inv-loop μ-loop
 enum-told c = search needs
 
 -- from where a length was read back to the loop, and to the start
-abbrev in-loop : tie.After-natural-at Inv-loop μ-loop → tie.At-loop Inv-loop μ-loop
-in-loop c = c .before .before .before .before
+abbrev in-loop : tie.After-length-at Inv-loop μ-loop → tie.At-loop Inv-loop μ-loop
+in-loop c = c .before .before
 
 abbrev args : tie.At-loop Inv-loop μ-loop → tie.Start Inv-loop μ-loop
 args l = l .before .before .before .before
 
 -- the length of a block
-read : (c : tie.After-natural-at Inv-loop μ-loop)
-    → readNatural (drop (in-loop c .loop .at) (args (in-loop c) .args .part .now)) ≡ numberOf (c .natural-at .result)
-read c = sym (c .natural-at .ensures ∙ ap readNatural (c .before .from .ensures .0))
+read : (c : tie.After-length-at Inv-loop μ-loop)
+    → readNatural (drop (in-loop c .loop .at) (args (in-loop c) .args .part .now)) ≡ numberOf (c .length-at .result)
+read c =
+    let l = in-loop c .loop in
+    walking.length-read _ _ _ _ _ _ _ _ _ _ _ _ _ _ _ _ _ (l .inv) (omega arith) _ (c .length-at .ensures)
 
 abbrev of-length : tie.After-known-told Inv-loop μ-loop → tie.At-loop Inv-loop μ-loop
 of-length c = in-loop (c .before .before .before)
@@ -151,8 +151,9 @@ noted-requires-2 c κs = search needs
 
 returns-3 : tie.Need-returns-3 Inv-loop μ-loop
 returns-3 c =
-    let l = c .before .before .before .loop in
-    ends _ _ _ _ _ _ _ _ _ _ _ _ _ _ _ _ _ (l .inv) (omega arith) (c .noted2 .result) (c .noted2 .ensures) ∙ sym (block-is _ _ _ _ _ (l .before .pre))
+    let a = c .before .before in
+    let l = a .loop in
+    ends _ _ _ _ _ _ _ _ _ _ _ _ _ _ _ _ _ (l .inv) (omega arith) (c .noted2 .result) (c .noted2 .ensures) ∙ sym (block-is _ _ _ _ _ (args a .pre))
 
 pub block-in-spec : {M : Type 1} → statement M
 block-in-spec =
@@ -162,8 +163,7 @@ block-in-spec =
     μ-loop
     sub-last
     loop-holds
-    from-requires
-    natural-at-requires
+    length-at-requires
     enum-known-len
     enum-told
     returns

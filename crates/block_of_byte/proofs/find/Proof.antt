@@ -19,8 +19,8 @@ enum-known-stride c = search needs
 enum-told : tie.Need-enum-told
 enum-told c = search needs
 
-enum-known-held : tie.Need-enum-known-held
-enum-known-held c = search needs
+enum-known-holder : tie.Need-enum-known-holder
+enum-known-holder c = search needs
 
 -- the list that was read, with a holder
 listed : (c : tie.After-stride) (h : Holder) → c .stride .given .0 .1 .1 .0 ≡ h
@@ -30,7 +30,7 @@ listed c h e = c .stride .given .1 ∙ ap (list-answer.List (c .stride .given .0
 find-in-requires : tie.Need-find-in-requires
 find-in-requires c κs =
     let l = c .before .before .before .before in
-    l .before .before .read-for .ensures .holding _ _ _ (listed l _ (c .before .held .given .1))
+    l .before .before .read-for .ensures .holding _ _ _ (listed l _ (c .before .holder .given .1))
 
 returns : tie.Need-returns
 returns c = (find-refused _ _ _ (c .before .before .before .read-for .ensures) _ (c .before .f .given .1), refused-found _ _)
@@ -45,7 +45,7 @@ returns-3 c =
     let h = c .before .before in
     let l = h .before .before .before in
     let r = l .before .before .read-for .ensures in
-    (c .find-in .ensures .0 ∙ find-list _ _ _ r _ _ _ (listed l _ (h .held .given .1)), c .find-in .ensures .1)
+    (c .find-in .ensures .0 ∙ find-list _ _ _ r _ _ _ (listed l _ (h .holder .given .1)), c .find-in .ensures .1)
 
 pub find-spec : {M : Type 1} → statement M
 find-spec =
@@ -55,7 +55,7 @@ find-spec =
     enum-known-f
     enum-known-stride
     enum-told
-    enum-known-held
+    enum-known-holder
     find-in-requires
     returns
     returns-2

@@ -10,14 +10,14 @@ use Rattle.block_of_byte.proofs.find_in.Tie as tie
 
 returns : tie.Need-returns
 returns c =
-    let a = c .before .before .before .before in
+    let a = c .before .before .before .before .before in
     (not-counted _ _ _ (a .pre) _ (not-true _ (c .if1 .taken)), entry-found _ _ _ (held-stands _ _ _ (a .pre)))
 
 sub-block-in : tie.Need-sub-block-in
-sub-block-in c = let a = c .before .before .before .before in starts-before _ _ _ (a .pre)
+sub-block-in c = let a = c .before .before .before .before .before .before in starts-before _ _ _ (a .pre)
 
 block-in-requires : tie.Need-block-in-requires
-block-in-requires c κs = let a = c .before .before .before .before in offset-in _ _ _ (a .pre) (not-false _ (c .if1 .left))
+block-in-requires c κs = let a = c .before .before .before .before .before .before in offset-in _ _ _ (a .pre) (not-false _ (c .before .if1 .left))
 
 enum-known-b : tie.Need-enum-known-b
 enum-known-b c = search needs
@@ -28,8 +28,8 @@ enum-told c = search needs
 returns-2 : tie.Need-returns-2
 returns-2 c =
     let b = c .before .before .before in
-    let o = b .before in
-    let a = o .before .before .before .before in (
+    let o = b .before .before in
+    let a = o .before .before .before .before .before in (
       block-here _ _ _ (a .pre) (not-false _ (o .if1 .left)) _ _ (b .block-in .ensures) _ (ap blockOf (c .before .b .given .1)),
       block-found _ _ _ _ (held-stands _ _ _ (a .pre)),
     )
@@ -37,8 +37,8 @@ returns-2 c =
 returns-3 : tie.Need-returns-3
 returns-3 c =
     let b = c .before .before in
-    let o = b .before in
-    let a = o .before .before .before .before in (
+    let o = b .before .before in
+    let a = o .before .before .before .before .before in (
       no-block-here _ _ _ (a .pre) (not-false _ (o .if1 .left)) _ _ (b .block-in .ensures) (ap blockOf (c .enum-told .given .1)),
       entry-found _ _ _ (held-stands _ _ _ (a .pre)),
     )
