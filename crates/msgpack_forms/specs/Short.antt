@@ -57,47 +57,49 @@ isShortInteger b width i = eqb width (shortWidth integerKind i) && signedWell b 
 
 -- ---- examples: both sides of each border, as first bytes and arguments
 
--- each has this answer
-abbrev Each : Bool → List (ℕ × Int) → Type 0
-Each t [] = Unit
-Each t (x ∷ xs) = (isShort (x .0) (x .1) ≡ t) × Each t xs
+abbrev everyShort : List (ℕ × Int) → Bool
+everyShort [] = true
+everyShort (x ∷ xs) = isShort (x .0) (x .1) && everyShort xs
 
-integers-short : Each true
+abbrev someShort : List (ℕ × Int) → Bool
+someShort [] = false
+someShort (x ∷ xs) = isShort (x .0) (x .1) || someShort xs
+
+integers-short : everyShort
     ((0x7f, plus 127) ∷ (0xcc, plus 128) ∷ (0xcc, plus 255) ∷ (0xcd, plus 256) ∷ (0xcd, plus 65535) ∷ (0xce, plus 65536) ∷ (0xce, plus 4294967295)
     ∷ (0xcf, plus 4294967296) ∷ (0xcf, plus 18446744073709551615) ∷ (0xff, minus 1) ∷ (0xe0, minus 32) ∷ (0xd0, minus 33) ∷ (0xd0, minus 128)
     ∷ (0xd1, minus 129) ∷ (0xd1, minus 32768) ∷ (0xd2, minus 32769) ∷ (0xd2, minus 2147483648) ∷ (0xd3, minus 2147483649)
-    ∷ (0xd3, minus 9223372036854775808) ∷ [])
+    ∷ (0xd3, minus 9223372036854775808) ∷ []) ≡ true
 unfolding isShort argumentWidth shortWidth fixedHolds fitsIn signedWell isSigned formatOf formats
-integers-short =
-    (refl, refl, refl, refl, refl, refl, refl, refl, refl, refl, refl, refl, refl, refl, refl, refl, refl, refl, refl, tt)
+integers-short = refl
 
--- a signed form of 100 or of 128 too, which int 8 does not hold
-integers-wasteful : Each false
+-- a signed form of an integer of at least 0 too
+integers-wasteful : someShort
     ((0xcc, plus 127) ∷ (0xcd, plus 255) ∷ (0xce, plus 65535) ∷ (0xcf, plus 4294967295) ∷ (0xd0, plus 100) ∷ (0xd1, plus 128) ∷ (0xd3, plus 2147483648)
-    ∷ (0xd0, minus 32) ∷ (0xd1, minus 128) ∷ (0xd2, minus 32768) ∷ (0xd3, minus 2147483648) ∷ [])
+    ∷ (0xd0, minus 32) ∷ (0xd1, minus 128) ∷ (0xd2, minus 32768) ∷ (0xd3, minus 2147483648) ∷ []) ≡ false
 unfolding isShort argumentWidth shortWidth fixedHolds fitsIn signedWell isSigned formatOf formats
-integers-wasteful = (refl, refl, refl, refl, refl, refl, refl, refl, refl, refl, refl, tt)
+integers-wasteful = refl
 
-contents-short : Each true
+contents-short : everyShort
     ((0xbf, plus 31) ∷ (0xd9, plus 32) ∷ (0xd9, plus 255) ∷ (0xda, plus 256) ∷ (0xda, plus 65535) ∷ (0xdb, plus 65536) ∷ (0xc4, plus 0) ∷ (0xc4, plus 255)
     ∷ (0xc5, plus 256) ∷ (0xc5, plus 65535) ∷ (0xc6, plus 65536) ∷ (0xc7, plus 0) ∷ (0xd4, plus 1) ∷ (0xd5, plus 2) ∷ (0xc7, plus 3) ∷ (0xd6, plus 4)
-    ∷ (0xd7, plus 8) ∷ (0xc7, plus 15) ∷ (0xd8, plus 16) ∷ (0xc7, plus 17) ∷ (0xc7, plus 255) ∷ (0xc8, plus 256) ∷ (0xc9, plus 65536) ∷ [])
+    ∷ (0xd7, plus 8) ∷ (0xc7, plus 15) ∷ (0xd8, plus 16) ∷ (0xc7, plus 17) ∷ (0xc7, plus 255) ∷ (0xc8, plus 256) ∷ (0xc9, plus 65536) ∷ []) ≡ true
 unfolding isShort argumentWidth shortWidth fixedHolds fitsIn signedWell isSigned formatOf formats
-contents-short =
-    (refl, refl, refl, refl, refl, refl, refl, refl, refl, refl, refl, refl, refl, refl, refl, refl, refl, refl, refl, refl, refl, refl, refl, tt)
+contents-short = refl
 
-contents-wasteful : Each false
+contents-wasteful : someShort
     ((0xd9, plus 31) ∷ (0xda, plus 255) ∷ (0xdb, plus 65535) ∷ (0xc5, plus 255) ∷ (0xc6, plus 65535) ∷ (0xc7, plus 1) ∷ (0xc7, plus 16) ∷ (0xc8, plus 255)
-    ∷ (0xc8, plus 16) ∷ (0xc9, plus 65535) ∷ [])
+    ∷ (0xc8, plus 16) ∷ (0xc9, plus 65535) ∷ []) ≡ false
 unfolding isShort argumentWidth shortWidth fixedHolds fitsIn signedWell isSigned formatOf formats
-contents-wasteful = (refl, refl, refl, refl, refl, refl, refl, refl, refl, refl, tt)
+contents-wasteful = refl
 
-others-short : Each true
+others-short : everyShort
     ((0x9f, plus 15) ∷ (0xdc, plus 16) ∷ (0xdc, plus 65535) ∷ (0xdd, plus 65536) ∷ (0x8f, plus 15) ∷ (0xde, plus 16) ∷ (0xde, plus 65535) ∷ (0xdf, plus 65536)
-    ∷ (0xc0, plus 0) ∷ (0xc2, plus 0) ∷ (0xc3, plus 1) ∷ (0xca, plus 0) ∷ (0xcb, plus 0) ∷ [])
+    ∷ (0xc0, plus 0) ∷ (0xc2, plus 0) ∷ (0xc3, plus 1) ∷ (0xca, plus 0) ∷ (0xcb, plus 0) ∷ []) ≡ true
 unfolding isShort argumentWidth shortWidth fixedHolds fitsIn signedWell isSigned formatOf formats
-others-short = (refl, refl, refl, refl, refl, refl, refl, refl, refl, refl, refl, refl, refl, tt)
+others-short = refl
 
-containers-wasteful : Each false ((0xdc, plus 15) ∷ (0xdd, plus 65535) ∷ (0xde, plus 15) ∷ (0xdf, plus 65535) ∷ [])
+containers-wasteful : someShort
+    ((0xdc, plus 15) ∷ (0xdd, plus 65535) ∷ (0xde, plus 15) ∷ (0xdf, plus 65535) ∷ []) ≡ false
 unfolding isShort argumentWidth shortWidth fixedHolds fitsIn signedWell isSigned formatOf formats
-containers-wasteful = (refl, refl, refl, refl, tt)
+containers-wasteful = refl

@@ -130,10 +130,11 @@ fn form_at(s: &[u8], at: usize, h: Head) -> Form
         return integer_form(b, count, msgpack::read_integer(&s[at..]));
     }
     let n = argument_of(kind, b, count);
+    let width = size - 1;
     Form {
         argument: n as u64,
         negative: false,
-        short: size - 1 == short_width(kind, n as u64),
+        short: width == short_width(kind, n as u64),
     }
 }
 
@@ -158,13 +159,7 @@ fn short_container(s: &[u8], at: usize, h: Head, allowance: usize) -> Passed
         return Passed::TooDeep;
     }
     let size = h.size;
-    let count = h.count;
-    let items = if h.kind == msgpack::MAP {
-        count + count
-    } else {
-        count
-    };
-    match short_items(s, at + size, items, allowance - 1) {
+    match short_items(s, at + size, items_of(h.kind, h.count), allowance - 1) {
         Passed::Whole(n) => Passed::Whole(size + n),
         Passed::Cut => Passed::Cut,
         Passed::TooDeep => Passed::TooDeep,
