@@ -5,7 +5,7 @@ use mathlib.Core.Bool.{Bool, true, false, cond, not, _&&_, _||_}
 use mathlib.Core.List.{List, [], _∷_}
 use mathlib.Core.Path.{_≡_, refl}
 use lib.Dec.{ltb, leb, eqb}
-use Rattle.msgpack.specs.Formats.{integerKind, textKind, binaryKind, extensionKind, arrayKind, mapKind, kindOf, widthOf, amountOf, formats, formatOf}
+use Rattle.msgpack.specs.Formats.{integerKind, textKind, binaryKind, extensionKind, arrayKind, kindOf, widthOf, amountOf, formats, formatOf}
 use Rattle.msgpack.specs.Readers.{Int, plus, minus, half}
 
 -- ---- the argument: an integer itself, the length of a content, an array's items, a map's pairs

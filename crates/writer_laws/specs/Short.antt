@@ -1,14 +1,15 @@
 -- Our records are in short forms throughout (request 8): the headers that the writer makes, and the primary parts that it makes.
-use Prim.Native.Nat.{ℕ, _^_, _<_}
+use Prim.Native.Nat.{ℕ, _^_, _≤_, _<_}
 use mathlib.Core.Bool.{Bool, true, false}
 use mathlib.Core.List.{List, [], _∷_, _++_, flatten, append-assoc, append-nil}
-use mathlib.Core.Path.{_≡_, refl, sym}
+use mathlib.Core.Path.{_≡_}
 use native.Mathlib.Omega.{arith}
 use lib.ListN.{length}
 use Rattle.slices.specs.Bytes.{AllBytes}
 use Rattle.msgpack_forms.specs.Items.{allShort}
-use Rattle.msgpack_model.specs.Encoded.{encoded}
-use Rattle.msgpack_model.specs.Short.{encoded-all-short}
+use Rattle.msgpack_model.specs.Encoding.{Encodes}
+use Rattle.msgpack_model.specs.Encoded.{encoded, WellSigned}
+use Rattle.msgpack_model.specs.Short.{encoded-all-short, all-short-exactly}
 use Rattle.identifier.specs.Identity.{Identity, isValid}
 use Rattle.identifier.specs.Composite.{compositeText}
 use Rattle.identifier.specs.Ulid.{isUlid}
@@ -59,3 +60,11 @@ pub delete-part-short : (i : Identity) (u : List ℕ) → isValid i ≡ true →
     → allShort (deletePart i u ++ rest) ≡ true
 delete-part-short i u v w bytes deleteBytes rest =
     rw (delete-part-is i u) (encoded-all-short (delete-part-encodes i u v w bytes deleteBytes) (omega arith) rest)
+
+-- ---- and exactly that: no encoding of the header is shorter, and no integer of at least 0 in it stands in a signed form
+
+pub block-header-exactly : (l : ℕ) (part : List ℕ) → AllBytes part → length part < 2 ^ 32 → l < 2 ^ 64
+    → ((e : List ℕ) → Encodes (values.blockHeader l part) e → length (blockHeader l (length part) ++ part) ≤ length e)
+    × WellSigned (values.blockHeader l part) (blockHeader l (length part) ++ part)
+block-header-exactly l part bytes size h =
+    all-short-exactly (block-header-encodes part bytes size l h) (omega arith) [] .0 (block-header-short part bytes size [] l h)
