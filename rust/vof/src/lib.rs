@@ -595,7 +595,11 @@ pub fn item(bytes: &[u8]) -> Result<Item, Refusal> {
     Ok(Item {
         kind: KINDS[kind as usize],
         length,
-        argument: if is_negative == 1 { -argument } else { argument },
+        argument: if is_negative == 1 {
+            -argument
+        } else {
+            argument
+        },
         is_short: is_short == 1,
     })
 }
