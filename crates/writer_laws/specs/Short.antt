@@ -2,10 +2,11 @@
 use Prim.Native.Nat.{ℕ, _^_, _≤_, _<_}
 use mathlib.Core.Bool.{Bool, true, false}
 use mathlib.Core.List.{List, [], _∷_, _++_, flatten, append-assoc, append-nil}
-use mathlib.Core.Path.{_≡_}
+use mathlib.Core.Path.{_≡_, ap, _∙_}
 use native.Mathlib.Omega.{arith}
 use lib.ListN.{length}
 use Rattle.slices.specs.Bytes.{AllBytes}
+use Rattle.msgpack_heads.specs.Heads.{textHead, binaryHead, unsignedInteger, arrayHead, mapHead}
 use Rattle.msgpack_forms.specs.Items.{allShort}
 use Rattle.msgpack_model.specs.Encoding.{Encodes}
 use Rattle.msgpack_model.specs.Encoded.{encoded, WellSigned}
@@ -13,32 +14,62 @@ use Rattle.msgpack_model.specs.Short.{encoded-all-short, all-short-exactly}
 use Rattle.identifier.specs.Identity.{Identity, isValid}
 use Rattle.identifier.specs.Composite.{compositeText}
 use Rattle.identifier.specs.Ulid.{isUlid}
+use Rattle.value.specs.Header.{primaryKey, secondaryKey, lengthKey}
+use Rattle.primary.specs.Parts.{bucketKey, objectKey, ulidKey, identifierKey, deletedKey, deleteIdKey}
 use Rattle.records_model.specs.Written as values
 use Rattle.writer.specs.Values.{textItem, pair, mapItem, primaryHeader, secondaryHeader, blockHeader, partHeader, blockPart, partValue, identityPairs, markerPairs, versionPart, deletePart}
 use Rattle.writer_laws.specs.Encoded.{part-value-encodes, block-header-encodes, block-part-encodes, IdentityBytes, version-part-encodes, delete-part-encodes}
 
 -- ---- what is written is what the writer's heads make of the value
 
+-- bytes written one after another, as a value's items group them
+grouped-part : (a b c d e : List ℕ) → (a ++ ((b ++ c) ++ d)) ++ e ≡ a ++ ((b ++ c) ++ ((d ++ e) ++ []))
+grouped-part a b c d e = simp (append-assoc, append-nil)
+
+grouped-header : (a b c d e f g h i j k l : List ℕ) → (a ++ ((b ++ c) ++ d ++ e ++ (f ++ g) ++ h) ++ ((i ++ j) ++ k)) ++ l
+    ≡ a ++ ((b ++ c) ++ ((d ++ ((e ++ ((f ++ g) ++ (h ++ []))) ++ [])) ++ ((i ++ j) ++ ((k ++ l) ++ []))))
+grouped-header a b c d e f g h i j k l = simp (append-assoc, append-nil)
+
+grouped-pair : (a b c : List ℕ) → a ++ (b ++ c) ≡ a ++ (b ++ (c ++ []))
+grouped-pair a b c = simp append-nil
+
+grouped-identity : (a b c d e f g r : List ℕ) → a ++ ((b ++ c) ++ ((d ++ e) ++ ((f ++ g) ++ r))) ≡ a ++ (b ++ (c ++ (d ++ (e ++ (f ++ (g ++ r))))))
+grouped-identity a b c d e f g r = simp append-assoc
+
 part-value-is : (part : List ℕ) → partValue part ≡ encoded (values.plainHeader part)
 unfolding partValue partHeader primaryHeader textItem
-part-value-is part = simp (append-assoc, append-nil)
+part-value-is part = grouped-part (mapHead 1) (textHead 1) primaryKey (binaryHead (length part)) part
 
 block-header-is : (l : ℕ) (part : List ℕ) → blockHeader l (length part) ++ part ≡ encoded (values.blockHeader l part)
 unfolding blockHeader secondaryHeader primaryHeader textItem
-block-header-is l part = simp (append-assoc, append-nil)
+block-header-is l part = grouped-header (mapHead 2) (textHead 1) secondaryKey (arrayHead 1) (mapHead 1) (textHead 1) lengthKey (unsignedInteger l)
+    (textHead 1) primaryKey (binaryHead (length part)) part
 
 block-part-is : (i : Identity) → blockPart i ≡ encoded (values.blockPart i)
 unfolding blockPart pair textItem
-block-part-is i = simp (append-assoc, append-nil)
+block-part-is i = grouped-pair (mapHead 1) (textHead 1 ++ identifierKey) (textHead (length (compositeText i)) ++ compositeText i)
+
+-- a text, with its head
+abbrev item : List ℕ → List ℕ
+item t = textHead (length t) ++ t
 
 version-part-is : (i : Identity) (marker : Bool) → versionPart i marker ≡ encoded (values.versionPart i marker)
 unfolding versionPart mapItem pair textItem flatten
-version-part-is i true = simp (append-assoc, append-nil)
-version-part-is i false = simp (append-assoc, append-nil)
+version-part-is i true =
+    grouped-identity (mapHead 4) (item bucketKey) (item (i .bucket)) (item objectKey) (item (i .object)) (item ulidKey) (item (i .ulid))
+    ((item deletedKey ++ (0xc3 ∷ [])) ++ [])
+    ∙ ap (λ r. mapHead 4 ++ (item bucketKey ++ (item (i .bucket) ++ (item objectKey ++ (item (i .object) ++ (item ulidKey ++ (item (i .ulid) ++ r)))))))
+    (append-assoc (item deletedKey) (0xc3 ∷ []) [])
+version-part-is i false =
+    grouped-identity (mapHead 3) (item bucketKey) (item (i .bucket)) (item objectKey) (item (i .object)) (item ulidKey) (item (i .ulid)) []
 
 delete-part-is : (i : Identity) (u : List ℕ) → deletePart i u ≡ encoded (values.deletePart i u)
 unfolding deletePart mapItem pair textItem flatten
-delete-part-is i u = simp (append-assoc, append-nil)
+delete-part-is i u =
+    grouped-identity (mapHead 4) (item bucketKey) (item (i .bucket)) (item objectKey) (item (i .object)) (item ulidKey) (item (i .ulid))
+    ((item deleteIdKey ++ item u) ++ [])
+    ∙ ap (λ r. mapHead 4 ++ (item bucketKey ++ (item (i .bucket) ++ (item objectKey ++ (item (i .object) ++ (item ulidKey ++ (item (i .ulid) ++ r)))))))
+    (append-assoc (item deleteIdKey) (item u) [])
 
 -- ---- so all its forms are short, whatever follows
 
