@@ -433,6 +433,43 @@ enum {
 uint64_t vof_find_block(const uint8_t *primary, size_t primary_length, uint64_t byte,
                         uint64_t *told, size_t told_length);
 
+/* ---- MessagePack items */
+
+/* The kind of an item. */
+enum {
+    VOF_KIND_NIL,
+    VOF_KIND_BOOLEAN,
+    VOF_KIND_INTEGER,
+    VOF_KIND_FLOAT,
+    VOF_KIND_TEXT,
+    VOF_KIND_BYTES,
+    VOF_KIND_ARRAY,
+    VOF_KIND_MAP,
+    VOF_KIND_EXTENSION
+};
+
+/* What vof_item tells. */
+enum {
+    VOF_ITEM_KIND,
+    /* In bytes, with all that it holds. */
+    VOF_ITEM_LENGTH,
+    /* An integer's magnitude, a boolean as 0 or 1, the length of a text, of bytes, or of an extension
+       without its type byte, an array's items, a map's pairs; else 0. */
+    VOF_ITEM_ARGUMENT,
+    /* 1 for a negative integer, else 0. */
+    VOF_ITEM_IS_NEGATIVE,
+    /* 1 where its own form is the short one, else 0: of an integer of at least 0 the fixed form if
+       that holds it, else the least unsigned one; of a negative one the fixed, else the least signed
+       one; of others the fixed form if that holds the length or count, else the least that does. */
+    VOF_ITEM_IS_SHORT,
+    VOF_ITEM_NUMBERS
+};
+
+/* Reads the item at the front of bytes.
+   `out` then has VOF_ITEM_NUMBERS numbers, and keeps the rest.
+   Refusals: 9, 10; 19 where `out` is too short. */
+uint64_t vof_item(const uint8_t *bytes, size_t bytes_length, uint64_t *out, size_t out_length);
+
 /* ---- writing
 
    Each vof_write_.. is told how many bytes at the front of `buf` are the pack so far, 0 at first, and puts

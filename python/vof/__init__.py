@@ -211,6 +211,32 @@ class Found(NamedTuple):
     stored: Place
 
 
+class Kind(Enum):
+    """The kind of a MessagePack item."""
+
+    NIL = "nil"
+    BOOLEAN = "boolean"
+    INTEGER = "integer"
+    FLOAT = "float"
+    TEXT = "text"
+    BYTES = "bytes"
+    ARRAY = "array"
+    MAP = "map"
+    EXTENSION = "extension"
+
+
+class Item(NamedTuple):
+    """A MessagePack item: how many bytes it has, with all that it holds, and whether its own form is
+    the short one."""
+
+    kind: Kind
+    length: int
+    # An integer itself, a boolean as 0 or 1, the length of a text, of bytes, or of an extension
+    # without its type byte, an array's items, a map's pairs; else 0.
+    argument: int
+    is_short: bool
+
+
 # ---- the shared object
 
 _BYTES, _SIZE, _NUMBER = ctypes.c_void_p, ctypes.c_size_t, ctypes.c_uint64
@@ -232,6 +258,7 @@ _FUNCTIONS = {
     "vof_pipe_end": _TOLD,
     "vof_pack_list": _READ + _TOLD,
     "vof_find_block": _READ + [_NUMBER] + _TOLD,
+    "vof_item": _READ + _TOLD,
     "vof_write_block": _WRITE + _READ * 2,
     "vof_version_part": _READ * 2 + [_NUMBER],
     "vof_write_version": _WRITE + _READ,
@@ -579,6 +606,17 @@ def find_block(primary: Data, byte: int) -> Optional[Found]:
     if not kind:
         return None
     return Found(entry, block if kind == 2 else None, _ulid(primary, at), Place(*stored))
+
+
+# ---- MessagePack items
+
+
+def item(data: Data) -> Item:
+    """The item at the front. Refusals 9 and 10."""
+    told = _numbers(5)
+    _word(_library.vof_item(*_lent(data), told, 5))
+    kind, length, argument, is_negative, is_short = told
+    return Item(tuple(Kind)[kind], length, -argument if is_negative else argument, is_short == 1)
 
 
 # ---- writing

@@ -343,6 +343,21 @@ def find(given: argparse.Namespace, output: Output, pack: Data) -> None:
     )
 
 
+def item(given: argparse.Namespace, output: Output, pack: Data) -> None:
+    """tell what MessagePack item stands at the front of a file, or at a place, and in which form"""
+    if not 0 <= given.at <= len(pack):
+        raise Failed("there is no place %d in it" % given.at)
+    told = vof.item(pack[given.at :])
+    output.fields(
+        {
+            "kind": told.kind.value,
+            "length": told.length,
+            "argument": told.argument,
+            "is_short": told.is_short,
+        }
+    )
+
+
 def refusals(given: argparse.Namespace, output: Output) -> None:
     """say what a refusal means and what to do, or list them all"""
     if given.number is None:
@@ -389,6 +404,7 @@ def parsed(arguments: Optional[Iterable[str]]) -> argparse.Namespace:
     finder = add("find", find, 1)
     finder.add_argument("at", type=int, metavar="AT")
     finder.add_argument("byte", type=int, metavar="BYTE")
+    add("item", item, 1).add_argument("at", type=int, nargs="?", default=0, metavar="AT")
     add("refusal", refusals, None).add_argument("number", type=int, nargs="?", metavar="N")
     return parser.parse_args(arguments)
 

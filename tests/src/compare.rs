@@ -2,6 +2,7 @@
 
 mod pipe;
 
+use crate::plain::form;
 use crate::plain::lookup::{current, explain, Version};
 use crate::plain::pack::read_pack;
 use crate::plain::pack_list::{self, find, read_pack_list, PackList};
@@ -80,6 +81,7 @@ pub enum Function {
     PipeEnd,
     PackList,
     FindBlock,
+    Item,
     WriteBlock,
     VersionPart,
     WriteVersion,
@@ -89,7 +91,7 @@ pub enum Function {
 }
 
 /// The numbers that each function can answer, 0 where it does not refuse.
-const NUMBERS: [(Function, &[usize]); 18] = [
+const NUMBERS: [(Function, &[usize]); 19] = [
     (Function::Scan, &[0, 1, 2, 3, 4, 5, 6, 7, 8, 19]),
     (Function::FindHash, &[0, 20]),
     (Function::Value, &[0, 9, 10, 11, 12, 19, 22]),
@@ -122,6 +124,7 @@ const NUMBERS: [(Function, &[usize]); 18] = [
     (Function::PipeEnd, &[0, 1, 2, 3, 4, 5, 6, 7, 8, 20]),
     (Function::PackList, &[0, 16, 17, 18, 19, 21, 22]),
     (Function::FindBlock, &[0, 16, 17, 18, 19, 21, 22]),
+    (Function::Item, &[0, 9, 10, 19]),
     (Function::WriteBlock, &[0, 19, 20]),
     (Function::VersionPart, &[0, 19, 20]),
     (Function::WriteVersion, &[0, 19, 20]),
@@ -426,6 +429,31 @@ impl Compare {
         let block = |list| find(&list, byte).and_then(|found| found.block);
         let same = safe == plain.map(|list| block(list).map(|number| number as u64));
         self.hold("the safe block", &inputs, same);
+    }
+
+    pub fn item(&mut self, bytes: &[u8]) {
+        self.inputs += 1;
+        let plain = form::item(bytes).map_err(alone);
+        let wanted = match &plain {
+            Err(refusal) => Wanted::refused(*refusal),
+            Ok(told) => Wanted {
+                answer: 0,
+                words: vec![
+                    told.kind,
+                    told.length as u64,
+                    told.argument.unsigned_abs() as u64,
+                    u64::from(told.argument < 0),
+                    u64::from(told.short),
+                ],
+                bytes: Vec::new(),
+            },
+        };
+        let rooms = [5, 4, 0, 8].map(|n| (n, 0));
+        let call = |words: &mut [u64], _: &mut [u8]| raw::item(bytes, words);
+        self.lent(Function::Item, &[bytes], &wanted, &rooms, call);
+        let safe = vof::item(bytes).map(|item| (item.length, item.argument, item.is_short));
+        let same = safe == plain.map(|told| (told.length as u64, told.argument, told.short));
+        self.hold("the safe item", &[bytes], same);
     }
 
     /// A call of the writer, with buffers around the length that is needed.

@@ -1,14 +1,11 @@
 // For C, Rust and Python: the entries of a pack list, six words for each, and the block that holds a byte of a version.
 ghost use mathlib.Core.Path.{_≡_};
-ghost use mathlib.Core.Bool.{cond};
-ghost use lib.Dec.{leb};
 ghost use lib.ListN.{length};
 ghost use Prim.Native.Nat.{_*_, _≤_};
-ghost use Rattle.slices.specs.Overwriting.{overwritten, writtenBytes};
+ghost use Rattle.slices.specs.Overwriting.{overwritten};
 ghost use Rattle.pack_list.specs.Lists.{packList};
 ghost use Rattle.pack_list.specs.Answers.{entriesIn, ListInside};
 ghost use Rattle.block_of_byte.specs.Answers.{findIn};
-ghost use Rattle.words.specs.Words.{answer};
 ghost use Rattle.capi_pack_list.specs.PackLists.{listWords, listAnswer, listTold, findAnswer, findTold};
 use block_of_byte::Found;
 use pack_list::NextEntry;
@@ -67,17 +64,6 @@ pub extern "C" fn vof_pack_list(primary: &[u8], told: &mut [u64]) -> u64
     }
 }
 
-// Numbers that go to the front of the lent words. 19: fewer words.
-fn tell(told: &mut [u64], numbers: &[u64]) -> u64
-    ensures answer { λ r. ⌜ r ≡ cond (leb (length (now (numbers .entry))) (length (now (told .entry)))) (answer 0 0) (answer 19 0) ⌝ }
-    ensures told { λ _. ⌜ now (told .exit) ≡ writtenBytes (now (told .entry)) 0 (now (numbers .entry)) ⌝ }
-{
-    if !words::store(told, 0, numbers) {
-        return words::answer(19, 0);
-    }
-    words::answer(0, 0)
-}
-
 // Kind; entry and block, counted from 0; start of the pack's ULID in the part; start and length of the
 // stored range. Of an entry alone the block is 0, and the range the entry's. 19: fewer than six words.
 #[no_mangle]
@@ -86,16 +72,16 @@ pub extern "C" fn vof_find_block(primary: &[u8], byte: u64, told: &mut [u64]) ->
     ensures told { λ _. ⌜ now (told .exit) ≡ findTold (now (primary .entry)) (findIn (now (primary .entry)) byte) (now (told .entry)) ⌝ }
 {
     match block_of_byte::find(primary, byte) {
-        Found::Nowhere => tell(told, &[0, 0, 0, 0, 0, 0]),
+        Found::Nowhere => words::tell(told, &[0, 0, 0, 0, 0, 0]),
         Found::Entry(k, e) => {
             let pack = e.pack.start as u64;
             let stored = e.stored;
-            tell(told, &[1, k as u64, 0, pack, stored.start, stored.len])
+            words::tell(told, &[1, k as u64, 0, pack, stored.start, stored.len])
         }
         Found::Block(k, e, b) => {
             let pack = e.pack.start as u64;
             let stored = b.stored;
-            tell(
+            words::tell(
                 told,
                 &[2, k as u64, b.number as u64, pack, stored.start, stored.len],
             )

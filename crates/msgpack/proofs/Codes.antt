@@ -21,7 +21,7 @@ use Rattle.msgpack.specs.Items.{Head, headOf}
 use Rattle.msgpack.specs.Readers.{isWhole, contentAt}
 use Rattle.msgpack.specs.Pairs.{codeOf, otherCode, codeAt, position}
 use Rattle.msgpack.specs.HeadLaws.{number-read, read-small}
-use Rattle.msgpack.proofs.Passages.{head-inside}
+use Rattle.msgpack.specs.Passages.{head-inside}
 
 -- ---- by the key's head
 

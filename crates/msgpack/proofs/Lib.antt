@@ -1,5 +1,4 @@
 mod Heads
-mod Passages
 mod Codes
 mod Updates
 mod Maps

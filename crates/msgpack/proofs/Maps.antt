@@ -20,7 +20,7 @@ use Rattle.msgpack.specs.declared.Values.{Values}
 use Rattle.msgpack.specs.declared.Pairs.{Pairs}
 use Rattle.msgpack.specs.PassingLaws.{map-passed, Beyond, beyond-whole, pair-joined, Deeper, deeper}
 use Rattle.msgpack.specs.CodeLaws.{asked-is-key}
-use Rattle.msgpack.proofs.Passages.{first, onward, none-left}
+use Rattle.msgpack.specs.Passages.{first, onward, none-left}
 
 -- ---- a pair
 

@@ -6,6 +6,7 @@ pub mod Pairs
 pub mod Views
 pub mod HeadLaws
 pub mod PassingLaws
+pub mod Passages
 pub mod ReaderLaws
 pub mod LookupLaws
 pub mod FrontLaws

@@ -208,7 +208,7 @@ bounded (suc allowance) s n p = by-head _ (items-bounded (passItem allowance) (b
 abbrev pub Deeper : (List ℕ → Passage) → (List ℕ → Passage) → Type 0
 Deeper item other = (s : List ℕ) (n : ℕ) → item s ≡ whole n → other s ≡ whole n
 
-items-deeper : (item other : List ℕ → Passage) → Deeper item other → (count : ℕ) → Deeper (passItems item count) (passItems other count)
+pub items-deeper : (item other : List ℕ → Passage) → Deeper item other → (count : ℕ) → Deeper (passItems item count) (passItems other count)
 unfolding passItems
 items-deeper item other one zero s n p = p
 items-deeper item other one (suc count) s n p =

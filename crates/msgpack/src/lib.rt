@@ -11,28 +11,28 @@ ghost use Rattle.msgpack.specs.Pairs.{codeAt, position, pairOf, pairAt, 
 use endian::Number;
 
 // The kinds of items, as numbers that can be compared.
-const UNUSED: usize = 0;
+pub const UNUSED: usize = 0;
 
-const NIL: usize = 1;
+pub const NIL: usize = 1;
 
-const BOOLEAN: usize = 2;
+pub const BOOLEAN: usize = 2;
 
-const INTEGER: usize = 3;
+pub const INTEGER: usize = 3;
 
-const FLOAT: usize = 4;
+pub const FLOAT: usize = 4;
 
-const TEXT: usize = 5;
+pub const TEXT: usize = 5;
 
-const BINARY: usize = 6;
+pub const BINARY: usize = 6;
 
-const EXTENSION: usize = 7;
+pub const EXTENSION: usize = 7;
 
-const ARRAY: usize = 8;
+pub const ARRAY: usize = 8;
 
-const MAP: usize = 9;
+pub const MAP: usize = 9;
 
 // How deep containers may stand in containers.
-const ALLOWANCE: usize = 16;
+pub const ALLOWANCE: usize = 16;
 
 // What a first byte says: the kind of item; the width of the number that follows; and an amount.
 // After that number stand as many bytes (of an array items, of a map pairs) as it and the amount
@@ -79,10 +79,10 @@ fn sized_format(b: u8) -> Format
 // The first byte of an item, and the number that may follow it: the item's kind, the head's own
 // length, and how many bytes (of an array items, of a map pairs) follow the head. The kind is UNUSED
 // where no item can begin so.
-struct Head {
-    kind: usize,
-    size: usize,
-    count: usize,
+pub struct Head {
+    pub kind: usize,
+    pub size: usize,
+    pub count: usize,
 }
 
 // No item begins so.
@@ -123,7 +123,7 @@ fn short_head(kind: usize, count: usize) -> Head
 }
 
 // The head at a place of s.
-fn head_at(s: &[u8], at: usize) -> Head
+pub fn head_at(s: &[u8], at: usize) -> Head
     ensures { λ r. ⌜ HeadAt (drop at (now (s .entry))) (headRead r) ⌝ }
 {
     if s.len() <= at {

@@ -62,14 +62,14 @@ fixed : (b kind amount : ℕ) → formatOf b ≡ format kind 0 amount → Begins
 unfolding big little
 fixed b kind amount form = begins b kind 0 amount amount [] form (omega arith) refl (omega arith)
 
-text-begins : {n : ℕ} {h : List ℕ} → TextHead n h → Begins textKind h n
+pub text-begins : {n : ℕ} {h : List ℕ} → TextHead n h → Begins textKind h n
 unfolding formatOf formats
 text-begins (fixstr n k) = fixed (0xa0 + n) textKind n (at-fixstr n k)
 text-begins (str8 {n = n} x) = counted 0xd9 textKind 1 n refl (omega arith) x
 text-begins (str16 {n = n} x) = counted 0xda textKind 2 n refl (omega arith) x
 text-begins (str32 {n = n} x) = counted 0xdb textKind 4 n refl (omega arith) x
 
-binary-begins : {n : ℕ} {h : List ℕ} → BinaryHead n h → Begins binaryKind h n
+pub binary-begins : {n : ℕ} {h : List ℕ} → BinaryHead n h → Begins binaryKind h n
 unfolding formatOf formats
 binary-begins (bin8 {n = n} x) = counted 0xc4 binaryKind 1 n refl (omega arith) x
 binary-begins (bin16 {n = n} x) = counted 0xc5 binaryKind 2 n refl (omega arith) x
@@ -79,7 +79,7 @@ binary-begins (bin32 {n = n} x) = counted 0xc6 binaryKind 4 n refl (omega arith)
 typed : (b w n : ℕ) {e : List ℕ} → formatOf b ≡ format extensionKind w 1 → w ≤ 8 → Number w n e → Begins extensionKind (b ∷ e) (suc n)
 typed b w n {e} form narrow x = begins b extensionKind w 1 (suc n) e form narrow (x .size) (omega (arith, x .is))
 
-extension-begins : {n : ℕ} {h : List ℕ} → ExtensionHead n h → Begins extensionKind h (suc n)
+pub extension-begins : {n : ℕ} {h : List ℕ} → ExtensionHead n h → Begins extensionKind h (suc n)
 unfolding formatOf formats
 extension-begins fixext1 = fixed 0xd4 extensionKind 2 refl
 extension-begins fixext2 = fixed 0xd5 extensionKind 3 refl

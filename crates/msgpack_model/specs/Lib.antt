@@ -14,3 +14,6 @@ pub mod Lookup
 pub mod Views
 pub mod Writers
 pub mod Range
+pub mod Shorts
+pub mod Encoded
+pub mod Short

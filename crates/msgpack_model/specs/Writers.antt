@@ -26,13 +26,13 @@ number-written w n h = record { size = length-bigBytes w n; bytes = bigBytes-byt
 pub number-lt : {w n : ℕ} {e : List ℕ} → Number w n e → n < 256 ^ w
 number-lt {e = e} x = rw (x .size, x .is) at (big-lt e (x .bytes))
 
-form-length : (f : Form) (n : ℕ) → length (formBytes f n) ≡ 1 + f .width
+pub form-length : (f : Form) (n : ℕ) → length (formBytes f n) ≡ 1 + f .width
 form-length f n = ap suc (length-bigBytes (f .width) n) ∙ omega arith
 
 -- ---- a form by a test
 
 -- what holds of the form that a test picks
-by-test : (P : Form → Type 0) (n bound : ℕ) (f g : Form) → (n < bound → P f) → (bound ≤ n → P g) → P (cond (ltb n bound) f g)
+pub by-test : (P : Form → Type 0) (n bound : ℕ) (f g : Form) → (n < bound → P f) → (bound ≤ n → P g) → P (cond (ltb n bound) f g)
 by-test P n bound f g p q = go (ltb n bound) refl
   where
     go : (t : Bool) → ltb n bound ≡ t → P (cond t f g)
@@ -40,7 +40,7 @@ by-test P n bound f g p q = go (ltb n bound) refl
     go false e = q (ltb-false n bound e)
 
 -- of the three sized forms, the one of w bytes holds n
-sized-by : (P : Form → Type 0) (first n : ℕ) → (n < 256 → P (form first 1)) → (n < 65536 → P (form (first + 1) 2))
+pub sized-by : (P : Form → Type 0) (first n : ℕ) → (n < 256 → P (form first 1)) → (n < 65536 → P (form (first + 1) 2))
     → P (form (first + 2) 4) → P (sizedForm first n)
 unfolding sizedForm
 sized-by P first n p q r = by-test P n 256 _ _ p λ h. by-test P n 65536 _ _ q λ k. r

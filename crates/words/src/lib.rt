@@ -1,5 +1,6 @@
 // What every function for C answers with: a refusal and what goes with it in one word, and results
 // that go to lent words.
+ghost use mathlib.Core.Bool.{cond};
 ghost use mathlib.Core.Path.{_≡_};
 ghost use Prim.Native.Nat.{_+_, _%_, _^_, _≤_};
 ghost use lib.Dec.{leb};
@@ -47,4 +48,15 @@ pub fn store(told: &mut [u64], at: usize, words: &[u64]) -> bool
     }
     copy(told, at, words);
     true
+}
+
+// The numbers go to the front of the lent words. 19: fewer words are lent, and nothing is written.
+pub fn tell(told: &mut [u64], numbers: &[u64]) -> u64
+    ensures answer { λ r. ⌜ r ≡ cond (leb (length (now (numbers .entry))) (length (now (told .entry)))) (answer 0 0) (answer 19 0) ⌝ }
+    ensures told { λ _. ⌜ now (told .exit) ≡ writtenBytes (now (told .entry)) 0 (now (numbers .entry)) ⌝ }
+{
+    if !store(told, 0, numbers) {
+        return answer(19, 0);
+    }
+    answer(0, 0)
 }

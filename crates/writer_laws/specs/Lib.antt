@@ -3,6 +3,7 @@ pub mod Meaning
 pub mod Calls
 pub mod Refusals
 pub mod Shortest
+pub mod Short
 pub mod ReadBack
 pub mod Added
 pub mod VersionPart

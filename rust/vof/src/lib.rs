@@ -561,6 +561,72 @@ pub fn find_block(primary: &[u8], byte: u64) -> Result<Option<Found<'_>>, Refusa
     }))
 }
 
+/// The kind of a MessagePack item.
+#[derive(Clone, Copy, Debug, PartialEq, Eq)]
+pub enum Kind {
+    Nil,
+    Boolean,
+    Integer,
+    Float,
+    Text,
+    Bytes,
+    Array,
+    Map,
+    Extension,
+}
+
+const KINDS: [Kind; 9] = [
+    Kind::Nil,
+    Kind::Boolean,
+    Kind::Integer,
+    Kind::Float,
+    Kind::Text,
+    Kind::Bytes,
+    Kind::Array,
+    Kind::Map,
+    Kind::Extension,
+];
+
+/// A MessagePack item.
+#[derive(Clone, Copy, Debug, PartialEq, Eq)]
+pub struct Item {
+    pub kind: Kind,
+    /// In bytes, with all that it holds.
+    pub length: u64,
+    /// An integer itself, a boolean as 0 or 1, the length of a text, of bytes, or of an extension
+    /// without its type byte, an array's items, a map's pairs; else 0.
+    pub argument: i128,
+    /// Whether its own form is the short one.
+    pub is_short: bool,
+}
+
+/// The MessagePack item at the front of bytes.
+///
+/// Refused with 9 or 10.
+///
+/// ```
+/// let item = vof::item(b"\xd1\xff\x80")?;
+/// assert_eq!((item.kind, item.length, item.argument), (vof::Kind::Integer, 3, -128));
+/// assert!(!item.is_short && vof::item(b"\xd0\x80")?.is_short);
+/// # Ok::<(), vof::Refusal>(())
+/// ```
+pub fn item(bytes: &[u8]) -> Result<Item, Refusal> {
+    let mut told = [0; 5];
+    word(raw::item(bytes, &mut told), |_| false)?;
+    let [kind, length, magnitude, is_negative, is_short] = told;
+    let argument = i128::from(magnitude);
+    Ok(Item {
+        kind: KINDS[kind as usize],
+        length,
+        argument: if is_negative == 1 {
+            -argument
+        } else {
+            argument
+        },
+        is_short: is_short == 1,
+    })
+}
+
 /// Writes a block after the first `used` bytes of the buffer, and gives the new count of bytes.
 ///
 /// The identifier is an [`Identifier`] or its composite text. Refused with 20 where it breaks the rules or

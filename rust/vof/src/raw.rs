@@ -74,6 +74,7 @@ extern "C" {
         told: *mut u64,
         told_length: usize,
     ) -> u64;
+    fn vof_item(bytes: *const u8, length: usize, out: *mut u64, out_length: usize) -> u64;
     fn vof_write_block(
         buffer: *mut u8,
         length: usize,
@@ -296,6 +297,12 @@ pub fn find_block(primary: &[u8], byte: u64, told: &mut [u64]) -> u64 {
             told.len(),
         )
     }
+}
+
+/// Kind; length; argument, by its magnitude; 1 for a negative integer; 1 where the form is the short
+/// one.
+pub fn item(bytes: &[u8], out: &mut [u64]) -> u64 {
+    unsafe { vof_item(bytes.as_ptr(), bytes.len(), out.as_mut_ptr(), out.len()) }
 }
 
 /// Word: the new count of bytes.

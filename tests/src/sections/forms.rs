@@ -290,6 +290,7 @@ pub fn nesting(compare: &mut Compare, _: &mut Random) {
     for (before, after) in FORMS {
         for around in (0..20).chain([33, 64]) {
             let deep = [before.repeat(around), vec![0x90], after.repeat(around)].concat();
+            compare.item(&deep);
             nested_values(compare, &deep);
             nested_primaries(compare, &Tree::Raw(deep));
         }
@@ -349,6 +350,7 @@ pub fn integers(compare: &mut Compare, _: &mut Random) {
     for number in near_powers() {
         // What does not fit an integer has no form.
         for form in integer_forms(number) {
+            compare.item(&form);
             let form = Tree::Raw(form);
             let e = ("e", Tree::Bytes(b"p".to_vec()));
             let second = |key| {
@@ -371,6 +373,20 @@ pub fn integers(compare: &mut Compare, _: &mut Random) {
             }
         }
     }
+}
+
+/// Every first byte, with what may follow it, and with nothing.
+pub fn first_bytes(compare: &mut Compare, random: &mut Random) {
+    for first in 0..=255 {
+        compare.item(&[first]);
+        for length in [1, 2, 5, 9, 40, 600] {
+            let content: Vec<u8> = (0..length).map(|_| random.byte() % 128).collect();
+            compare.item(&[&[first], &content[..]].concat());
+            compare.item(&[&[first], &vec![0; length][..]].concat());
+            compare.item(&[&[first], &vec![0xFF; length][..]].concat());
+        }
+    }
+    compare.item(b"");
 }
 
 pub fn item_lengths(compare: &mut Compare, random: &mut Random) {
@@ -401,6 +417,7 @@ fn item_length(compare: &mut Compare, random: &mut Random, head: &[u8], needed: 
     for length in lengths.into_iter().filter(|&length| length < 1 << 17) {
         let content: Vec<u8> = (0..length).map(|_| random.byte() % 128).collect();
         let item = [head, &content].concat();
+        compare.item(&item);
         compare.value(&item);
         compare.value(&[b"\x81\xa1e", &item[..]].concat());
         compare.value(&[b"\x82\xa1e\xc4\x01p\xa1x", &item[..]].concat());

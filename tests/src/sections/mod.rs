@@ -15,7 +15,7 @@ use crate::random::Random;
 
 type Section = (&'static str, fn(&mut Compare, &mut Random));
 
-pub const ALL: [Section; 33] = [
+pub const ALL: [Section; 34] = [
     ("the documents' own cases", document::cases),
     ("the stored lookups", document::lookups),
     ("hashes", document::hashes),
@@ -33,6 +33,7 @@ pub const ALL: [Section; 33] = [
     ("nesting", forms::nesting),
     ("integers near powers of two", forms::integers),
     ("item lengths near powers of two", forms::item_lengths),
+    ("items with every first byte", forms::first_bytes),
     ("value lengths near powers of two", damage::value_lengths),
     ("random packs", damage::random_packs),
     ("bytes changed", damage::changed),

@@ -10,7 +10,7 @@ use lib.ListN.{length, drop, length-drop}
 use Rattle.msgpack.specs.Formats.{unusedKind}
 use Rattle.msgpack.specs.Items.{Passage, headRead, whole, cut, tooDeep, passageOf, beyond, passItems, passItem}
 use Rattle.msgpack.specs.PassingLaws.{beyond-deep, too-deep, unused, flat-whole, flat-cut}
-use Rattle.msgpack.proofs.Passages.{beyond-cut, passed-from, first, onward, none-left, item-inside, head-inside, container}
+use Rattle.msgpack.specs.Passages.{beyond-cut, passed-from, first, onward, none-left, item-inside, head-inside, container}
 use Rattle.msgpack.proofs.pass_container.Reads as pass-container
 use Rattle.msgpack.proofs.pass_container.Kinds as pass-container-kinds
 use Rattle.msgpack.proofs.+pass_container+pass_item+pass_items.Lts-pass_container as pass-container-lts

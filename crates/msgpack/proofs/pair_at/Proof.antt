@@ -6,7 +6,7 @@ use native.Mathlib.Omega.{arith}
 use lib.ListN.{drop}
 use Rattle.msgpack.specs.Items.{whole, passageOf, passItem}
 use Rattle.msgpack.specs.Pairs.{insideAllowed, pairAt}
-use Rattle.msgpack.proofs.Passages.{item-inside}
+use Rattle.msgpack.specs.Passages.{item-inside}
 use Rattle.msgpack.proofs.pair_at.Statement.{statement}
 use Rattle.msgpack.proofs.pair_at.Tie as tie
 

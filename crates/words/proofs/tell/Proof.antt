@@ -1,4 +1,4 @@
--- `capi_pack_list::tell` meets its contract: the words are stored exactly where there is room, and that is what is answered.
+-- `words::tell` meets its contract: the words are stored exactly where there is room, and that is what is answered.
 use Prim.Native.Nat.{ℕ, _+_}
 use mathlib.Core.Path.{_≡_, sym, ap, _∙_}
 use mathlib.Core.Bool.{true, false}
@@ -7,8 +7,8 @@ use borrow.Author.Needs.{needs}
 use borrow.Author.Tests.{not-true, not-false}
 use lib.Dec.{leb}
 use lib.ListN.{length}
-use Rattle.capi_pack_list.proofs.tell.Statement.{statement}
-use Rattle.capi_pack_list.proofs.tell.Tie as tie
+use Rattle.words.proofs.tell.Statement.{statement}
+use Rattle.words.proofs.tell.Tie as tie
 
 store-requires : tie.Need-store-requires
 store-requires c κs = search needs

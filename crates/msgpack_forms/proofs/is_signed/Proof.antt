@@ -1,0 +1,12 @@
+-- `msgpack_forms::is_signed` meets its contract.
+use mathlib.Core.Path.{refl}
+use Rattle.msgpack_forms.specs.Short.{isSigned}
+use Rattle.msgpack_forms.proofs.is_signed.Statement.{statement}
+use Rattle.msgpack_forms.proofs.is_signed.Tie as tie
+
+returns : tie.Need-returns
+unfolding isSigned
+returns c = refl
+
+pub is-signed-spec : {M : Type 1} → statement M
+is-signed-spec = tie.close (tie.spec returns)

@@ -1,0 +1,4 @@
+pub mod Short
+pub mod Items
+pub mod FormLaws
+pub mod ShortLaws
