@@ -299,7 +299,8 @@ module _ (ps : List Placed) (bucket object bound : List ℕ) where
       offered : below (w .identifier) ≡ true → Offered ps bucket object bound w
       offered b = record { at = p; among = m; offers = record { is = is; test-passed = b } }
 
-      passes : (l : Bool) → liveBelow bound (w .identifier) ≡ l → (t : Option Version) → left ≡ t → Covering (better live (cond l (some w) none)) (better kept t)
+      passes : (l : Bool) → liveBelow bound (w .identifier) ≡ l → (t : Option Version) → left ≡ t
+          → Covering (better live (cond l (some w) none)) (better kept t)
           → Covering (better live (cond (liveBelow bound (w .identifier)) (some w) none)) (better kept left)
       passes l e t f c = rw (e, f) c
 
