@@ -104,9 +104,9 @@ fn lent(pack: &[u8], bucket: &str, object: &str, scratch: &mut [u32]) -> Answer 
 /// No version delete takes fewer bytes: VOF_LEAST_DELETION_LENGTH of include/vof.h.
 const LEAST_DELETION_LENGTH: usize = 106;
 
-/// As many hints as a pack of this length has deletions at most.
+/// As many hints, of two numbers each, as a pack of this length has deletions at most.
 fn scratch_for(pack: &[u8]) -> Vec<u32> {
-    vec![0; pack.len() / LEAST_DELETION_LENGTH]
+    vec![0; 2 * (pack.len() / LEAST_DELETION_LENGTH)]
 }
 
 fn rust(pack: &[u8], bucket: &str, object: &str) -> Answer {
@@ -278,40 +278,59 @@ fn python(pack: &[u8], object: &str) -> Option<(String, f64)> {
     Some((ulid.to_string(), milliseconds.parse().unwrap()))
 }
 
-/// A row with more deletions than LOOKUP_MOST is left out, for a try that takes seconds.
-fn most_deletions() -> usize {
-    std::env::var("LOOKUP_MOST")
-        .ok()
-        .and_then(|most| most.parse().ok())
-        .unwrap_or(usize::MAX)
+/// A row with more deletions than LOOKUP_MOST is left out, for a try that takes seconds, and one with
+/// fewer than LOOKUP_LEAST, for the longest alone.
+fn is_measured(deletions: usize) -> bool {
+    let bound = |name| {
+        std::env::var(name)
+            .ok()
+            .and_then(|bound| bound.parse().ok())
+    };
+    bound("LOOKUP_LEAST").unwrap_or(0) <= deletions
+        && deletions <= bound("LOOKUP_MOST").unwrap_or(usize::MAX)
+}
+
+/// With LOOKUP_LENT nothing but the lookup with memory lent is measured, beside Rust: the others take
+/// minutes where there are many deletions.
+fn is_lent_alone() -> bool {
+    std::env::var_os("LOOKUP_LENT").is_some()
 }
 
 fn measure(what: &str, pack: Pack) {
     let name = object(0);
     let (mut p_answer, mut l_answer, mut r_answer) = (Ok(None), Ok(None), Ok(None));
     let mut scratch = scratch_for(&pack.bytes);
-    let best = timing::compare_all(&mut [
-        timing::calls(|| p_answer = black_box(proved(black_box(&pack.bytes), BUCKET, &name))),
+    let mut functions = vec![
         timing::calls(|| {
             l_answer = black_box(lent(black_box(&pack.bytes), BUCKET, &name, &mut scratch))
         }),
         timing::calls(|| r_answer = black_box(rust(black_box(&pack.bytes), BUCKET, &name))),
-    ]);
+    ];
+    if !is_lent_alone() {
+        let call = || p_answer = black_box(proved(black_box(&pack.bytes), BUCKET, &name));
+        functions.push(timing::calls(call));
+    }
+    let best = timing::compare_all(&mut functions);
+    drop(functions);
     let want = pack.current.as_ref().map(|(start, _)| *start);
-    expect(Ok(want), p_answer, r_answer, what);
     expect(Ok(want), l_answer, r_answer, what);
-    let [p, l, r] = [best[0] / 1e6, best[1] / 1e6, best[2] / 1e6];
-    let len = pack.bytes.len();
-    print!("{what:36} {len:9} {p:11.4} {l:9.4} {r:9.4} {:9.2}", l / r);
+    let (l, r, len) = (best[0] / 1e6, best[1] / 1e6, pack.bytes.len());
+    print!("{what:36} {len:9} {l:9.4} {r:9.4} {:9.2}", l / r);
+    if is_lent_alone() {
+        return println!();
+    }
+    expect(Ok(want), p_answer, r_answer, what);
+    let p = best[2] / 1e6;
+    print!(" {p:11.4} {:13.2}", p / r);
     match python(&pack.bytes, &name) {
         Some((ulid, y)) => {
             let want = pack.current.map_or("nothing".to_string(), |(_, ulid)| ulid);
             if ulid != want {
                 fail(&format!("{what}: Python gives {ulid}, not {want}"));
             }
-            println!(" {y:11.3} {:13.2} {:15.3}", p / r, p / y);
+            println!(" {y:11.3} {:13.3}", l / y);
         }
-        None => println!(" {:>11} {:13.2}", "absent", p / r),
+        None => println!(" {:>11}", "absent"),
     }
 }
 
@@ -321,23 +340,25 @@ fn main() {
     println!("Current version, best round of each; a ratio under 1.00 means that proved is faster");
     println!("Python needs Debian's python3-msgpack and python3-xxhash");
     println!(
-        "{:36}     bytes   proved ms   lent ms   Rust ms lent/Rust   Python ms   proved/Rust   proved/Python",
+        "{:36}     bytes   lent ms   Rust ms lent/Rust not lent ms not lent/Rust   Python ms   lent/Python",
         "versions, deleted"
     );
     for (versions, deleted) in [(1, 0), (1, 1)] {
-        measure(
-            &format!("{versions}, {deleted}"),
-            Pack::new(versions, 1, deleted),
-        );
+        if is_measured(deleted) {
+            let what = format!("{versions}, {deleted}");
+            measure(&what, Pack::new(versions, 1, deleted));
+        }
     }
     for versions in [1_000, 10_000, 100_000] {
-        measure(&format!("{versions}, 0"), Pack::new(versions, OBJECTS, 0));
+        if is_measured(0) {
+            measure(&format!("{versions}, 0"), Pack::new(versions, OBJECTS, 0));
+        }
     }
     for deleted in [1, 10, 100] {
-        measure(
-            &format!("10000, newest {deleted}"),
-            Pack::new(10_000, OBJECTS, deleted),
-        );
+        if is_measured(deleted) {
+            let what = format!("10000, newest {deleted}");
+            measure(&what, Pack::new(10_000, OBJECTS, deleted));
+        }
     }
     // The worst case: all versions of the one object deleted.
     let orders = [
@@ -345,9 +366,8 @@ fn main() {
         ("falling", Order::Falling),
         ("mixed", Order::Mixed),
     ];
-    let most = most_deletions();
     let counts = [100, 1_000, 10_000, 100_000, 400_000, 1_600_000];
-    for versions in counts.into_iter().filter(|&count| count <= most) {
+    for versions in counts.into_iter().filter(|&count| is_measured(count)) {
         for (name, order) in orders {
             let what = format!("{versions}, all, {name}");
             measure(&what, Pack::all_deleted(versions, 1, order));
@@ -355,7 +375,10 @@ fn main() {
     }
     // Prepared packs: no more versions than it takes to need as many turns, a version where the hints
     // that a lookup has itself end.
-    for deletions in [20_000, 200_000].into_iter().filter(|&count| count <= most) {
+    for deletions in [20_000, 200_000]
+        .into_iter()
+        .filter(|&count| is_measured(count))
+    {
         for (name, order) in orders {
             let pack = Pack::all_deleted(deletions, 8_193, order);
             let versions = deletions.div_ceil(8_193);

@@ -248,15 +248,15 @@ uint64_t vof_current(const uint8_t *pack, size_t pack_length, const uint8_t *buc
 enum {
     /* No version delete takes fewer bytes. */
     VOF_LEAST_DELETION_LENGTH = 106,
-    /* So many hints a lookup has itself: to lend no more is of no use. */
+    /* So many hints a lookup has itself: to lend no more, twice as many numbers, is of no use. */
     VOF_OWN_HINTS = 8192
 };
 
-/* How many numbers to lend to vof_current_with for a pack of so many bytes: one for each version delete
-   that it can have, or none where a lookup has enough itself. */
+/* How many numbers to lend to vof_current_with for a pack of so many bytes: a hint of two numbers for
+   each version delete that it can have, or none where a lookup has enough itself. */
 static inline size_t vof_scratch_length(size_t pack_length) {
     size_t most = pack_length / VOF_LEAST_DELETION_LENGTH;
-    return most > VOF_OWN_HINTS ? most : 0;
+    return most > VOF_OWN_HINTS ? 2 * most : 0;
 }
 
 /* The same, with memory lent for the search, of any length. What `scratch` holds changes no answer. On a

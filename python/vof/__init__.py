@@ -447,10 +447,10 @@ def value(value: Data) -> Value:
 
 
 def scratch_length(pack_length: int) -> int:
-    """How many hints a lookup in a pack of so many bytes is lent: one for each version delete that
-    it can have, or none where a lookup has enough itself."""
+    """How many numbers a lookup in a pack of so many bytes is lent: a hint of two numbers for each
+    version delete that it can have, or none where a lookup has enough itself."""
     most = pack_length // LEAST_DELETION_LENGTH
-    return most if most > OWN_HINTS else 0
+    return 2 * most if most > OWN_HINTS else 0
 
 
 def _scratch(pack_length: int) -> Any:

@@ -344,7 +344,7 @@ impl Compare {
             |words: &mut [u64], ulid: &mut [u8]| raw::current(pack, bucket, object, words, ulid);
         self.lent(Function::Current, &inputs, &wanted, &rooms, call);
         // More than the search has of its own, so that it is used, and none of it a hint.
-        const LENT: [u32; vof::OWN_HINTS + 1] = [7; vof::OWN_HINTS + 1];
+        const LENT: [u32; 2 * vof::OWN_HINTS + 1] = [7; 2 * vof::OWN_HINTS + 1];
         let call = |words: &mut [u64], ulid: &mut [u8]| {
             let mut scratch = LENT;
             let answer = raw::current_with(pack, bucket, object, &mut scratch, words, ulid);

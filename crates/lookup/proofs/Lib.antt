@@ -2,7 +2,6 @@ mod Places
 mod Comparisons
 mod Candidates
 mod Passes
-mod Stores
 mod Deletions
 mod Turns
 mod Searches

@@ -1,7 +1,8 @@
 -- What the answers of the code say: document 01's numbers, and the contents at the places told.
-use Prim.Native.Nat.{ℕ, _+_, _≤_}
-use mathlib.Core.Bool.{Bool, true, false, not, _&&_, true≢false}
+use Prim.Native.Nat.{ℕ, _+_}
+use mathlib.Core.Bool.{Bool, true, false, true≢false}
 use mathlib.Core.List.{List, [], _∷_}
+use mathlib.Core.Logic.{_⊎_}
 use mathlib.Core.Option.{Option, none, some}
 use mathlib.Core.Path.{_≡_, refl, sym}
 use native.Mathlib.Omega.{arith}
@@ -10,18 +11,18 @@ use Rattle.slices.specs.declared.Place.{Place}
 use Rattle.refusals.specs.Limit.{packLimit}
 use Rattle.tlv.specs.Found as tlv
 use Rattle.pack.specs.Reading.{Ending, whole, refused}
-use Rattle.identifier.specs.Identity.{Identity, identity}
+use Rattle.identifier.specs.Identity.{identity}
 use Rattle.primary.specs.Answers.{textsIn}
 use Rattle.records.specs.Answers as records
 use Rattle.records.specs.Answers.{IsValue}
-use Rattle.current_version.specs.Current.{Placed, Version, Answer, nothing, found, refusedAt, alone, readability, best, deletes, isDeleted}
+use Rattle.current_version.specs.Current.{Placed, Version, Answer, nothing, found, refusedAt, alone, readability, deletes, isDeleted}
 use Rattle.lookup_records.specs.Answers.{roleIn, valueIn, VersionTold}
 use Rattle.lookup_records.specs.Walk.{placedFrom}
 use Rattle.lookup_records.specs.declared.Role.{Role}
 use Rattle.lookup_records.specs.declared.Role.the-variants as role-answer
 use Rattle.lookup_records.specs.declared.Visited.{Visited}
-use Rattle.lookup.specs.Search.{isBelow, greatestBelow, firstBound, isAnyDeleted, Between}
-use Rattle.lookup.specs.Hints.{ulidAt, isShown, AllFirst}
+use Rattle.ulid_hints.specs.Hints.{ulidAt, AllFirst, Shown}
+use Rattle.lookup.specs.Search.{greatestBelow, currentBelow, firstBound, isAnyDeleted, Covers}
 use Rattle.lookup.specs.declared.Version as declared-version
 use Rattle.lookup.specs.declared.Candidate.{Candidate}
 use Rattle.lookup.specs.declared.Candidate.the-variants as candidate-answer
@@ -147,30 +148,23 @@ pub record IsHint (s bucket object : List ℕ) (r : Role) (h : Hint) : Type 0 wh
 
 -- one taken in, if there is one
 pub record TakenIn (h : Hint) (n : ℕ) (old : List ℕ) (r : ℕ) (new : List ℕ) : Type 0 where
-  pub within : r ≤ length new
   pub long : length new ≡ length old
   pub keeps : (p : ℕ → Bool) → ((place : ℕ) → h ≡ hint-answer.At place → p place ≡ true) → AllFirst p old n → AllFirst p new r
 
 -- all deletions: whether one is of the bound, and hints, each of which is true
 pub record Notes (s bucket object bound : List ℕ) (r : Noted) (hints : List ℕ) : Type 0 where
   pub named : r .named ≡ isDeleted (placedFrom packLimit s 0) (identity bound bucket object)
-  pub within : r .count ≤ length hints
   pub sound : AllFirst (isDeletedAt s bucket object) hints (r .count)
 
--- no hint shows that it is deleted
-unfoldable pub isUnshown : List ℕ → List ℕ → ℕ → Identity → Bool
-isUnshown s hints n i = not (isShown s (i .ulid) hints n)
-
-unfoldable pub isUnshownBelow : List ℕ → List ℕ → List ℕ → List ℕ → List ℕ → ℕ → Identity → Bool
-isUnshownBelow s bucket object bound hints n i = isBelow bucket object bound i && isUnshown s hints n i
+-- a version is left, or none where a hint shows its ULID
+pub record Spares (s hints : List ℕ) (n : ℕ) (offer left : Option Version) : Type 0 where
+  pub is : (left ≡ offer) ⊎ ((left ≡ none) × ((v : Version) → offer ≡ some v → Shown s (v .identifier .ulid) hints n))
 
 -- ---- a turn of the search
 
--- the next to look at: the best under some test that what is live and below the bound passes, and only what is below it
+-- the next to look at, below the bound: the current version there, or one that is deleted and than which that is not greater
 pub record IsNext (s bucket object bound : List ℕ) (c : Candidate) : Type 0 where
-  pub test : Identity → Bool
-  pub between : Between (placedFrom packLimit s 0) bucket object bound test
-  pub is : candidateIn s c ≡ best test (placedFrom packLimit s 0)
+  pub covers : Covers (placedFrom packLimit s 0) bucket object bound (currentBelow (placedFrom packLimit s 0) bucket object bound) (candidateIn s c)
   pub inside : CandidateInside s c
 
 -- whether the version is deleted, and then the next one

@@ -447,11 +447,11 @@ pub fn value(value: &[u8]) -> Result<Value<'_>, Refusal> {
     })
 }
 
-/// How many hints a lookup in a pack of so many bytes is lent: one for each version delete that it can
-/// have, or none where a lookup has enough itself.
+/// How many numbers a lookup in a pack of so many bytes is lent: a hint of two numbers for each version
+/// delete that it can have, or none where a lookup has enough itself.
 pub fn scratch_length(pack_length: usize) -> usize {
     match pack_length / LEAST_DELETION_LENGTH {
-        most if most > OWN_HINTS => most,
+        most if most > OWN_HINTS => 2 * most,
         _ => 0,
     }
 }
