@@ -1,95 +1,32 @@
 -- Laws of forms: the form of the item at the front, from its head.
-use Prim.Native.Nat.{ℕ, _+_, _-_, _<_}
-use mathlib.Core.Bool.{Bool, true, false, cond, not, _&&_}
-use mathlib.Core.List.{List, [], _∷_}
+use Prim.Native.Nat.{ℕ, _-_}
+use mathlib.Core.List.{List}
 use mathlib.Core.Option.{Option, none, some}
-use mathlib.Core.Path.{_≡_, refl, sym, ap, _∙_}
-use native.Mathlib.Omega.{arith}
-use borrow.Author.Tests.{eq-eqb, ne-eqb, eqb-true}
+use mathlib.Core.Path.{_≡_, refl}
+use borrow.Author.Tests.{eq-eqb, ne-eqb}
 use lib.Dec.{eqb}
-use lib.ListN.{length, getD, take, drop}
+use lib.ListN.{getD}
 use Rattle.slices.specs.Bytes.{AllBytes}
-use Rattle.slices.specs.Tables.{agree}
-use Rattle.endian.specs.Numbers.{little, big}
-use Rattle.endian.specs.Places.{numberAt}
-use Rattle.msgpack.specs.Formats.{unusedKind, integerKind, kindOf, widthOf, amountOf, formats, formatOf}
-use Rattle.msgpack.specs.Items.{headBy, headOf}
+use Rattle.msgpack.specs.Formats.{unusedKind, integerKind}
+use Rattle.msgpack.specs.Items.{headOf}
 use Rattle.msgpack.specs.Readers.{Int, plus, readInteger}
-use Rattle.msgpack.specs.HeadLaws.{NumberRead, number-read}
-use Rattle.msgpack_forms.specs.Short.{shortWidth, argumentWidth, isSigned, signedWell, isShort, isShortInteger}
-use Rattle.msgpack_forms.specs.Items.{argumentOf, argumentAt, Form, formBy, integerFormBy, formAt}
+use Rattle.msgpack.specs.Short.{shortWidth, shortFront}
+use Rattle.msgpack.specs.ShortLaws.{other-short}
+use Rattle.msgpack_forms.specs.Items.{argumentOf, argumentAt, formBy, integerFormBy, formAt}
 
--- ---- the first byte's format, and the head
+module _ (s : List ℕ) where
+  integer-by : (r : Option Int) → formBy (getD s 0 0) r ≡ integerFormBy (shortFront s r) r
+  integer-by none = refl
+  integer-by (some i) = refl
 
--- an integer's format has no number that counts
-integer-width : (b : ℕ) → b < 256 → kindOf (formatOf b) ≡ integerKind → widthOf (formatOf b) ≡ 0
-unfolding formatOf formats
-integer-width b h k =
-    let all : cond (eqb (kindOf (formatOf b)) integerKind) (eqb (widthOf (formatOf b)) 0) true ≡ true
-    = agree (λ k. cond (eqb (kindOf (formatOf k)) integerKind) (eqb (widthOf (formatOf k)) 0) true) (λ k. true) 256 refl b h in
-    eqb-true (widthOf (formatOf b)) 0 (rw (eq-eqb _ _ k) at all)
-
--- only integers have signed forms
-signed-integer : (b : ℕ) → b < 256 → (kindOf (formatOf b) ≡ integerKind → ⊥) → isSigned b ≡ false
-unfolding formatOf formats isSigned
-signed-integer b h k =
-    rw (ne-eqb _ _ k) at (agree (λ k. cond (eqb (kindOf (formatOf k)) integerKind) false (isSigned k)) (λ k. false) 256 refl b h)
-
-nothing-read : (s : List ℕ) (w n : ℕ) → w ≡ 0 → NumberRead big s 1 w n → n ≡ 0
-unfolding big little
-nothing-read s w n z r = r .is ∙ rw z
-
--- what the head says of its first byte's format
-pub record HeadFormat (s : List ℕ) : Type 0 where
-  pub kind : kindOf (formatOf (getD s 0 0)) ≡ headOf s .kind
-  pub width : argumentWidth (getD s 0 0) ≡ cond (eqb (headOf s .kind) integerKind) (headOf s .count) (headOf s .size - 1)
-
-pub head-format : (s : List ℕ) → AllBytes s → (headOf s .kind ≡ unusedKind → ⊥) → HeadFormat s
-unfolding headOf argumentWidth
-head-format [] bytes used = absurd (used refl)
-head-format (b ∷ t) bytes used = by (numberAt big (b ∷ t) 1 (widthOf (formatOf b))) refl used
-  where
-    said : (n : ℕ) → numberAt big (b ∷ t) 1 (widthOf (formatOf b)) ≡ some n
-        → cond (eqb (kindOf (formatOf b)) integerKind) (amountOf (formatOf b)) (widthOf (formatOf b))
-        ≡ cond (eqb (kindOf (formatOf b)) integerKind) (amountOf (formatOf b) + n) (1 + widthOf (formatOf b) - 1)
-    said n e = go (eqb (kindOf (formatOf b)) integerKind) refl
-      where
-        go : (i : Bool) → eqb (kindOf (formatOf b)) integerKind ≡ i
-            → cond i (amountOf (formatOf b)) (widthOf (formatOf b)) ≡ cond i (amountOf (formatOf b) + n) (1 + widthOf (formatOf b) - 1)
-        go true i =
-            let none-counted = integer-width b (bytes .below 0) (eqb-true _ _ i) in
-            omega (arith, nothing-read (b ∷ t) (widthOf (formatOf b)) n none-counted (number-read big (b ∷ t) 1 (widthOf (formatOf b)) n e))
-        go false i = omega arith
-
-    by : (r : Option ℕ) → numberAt big (b ∷ t) 1 (widthOf (formatOf b)) ≡ r → (headBy (formatOf b) r .kind ≡ unusedKind → ⊥) → HeadFormat (b ∷ t)
-    by none e u = absurd (u refl)
-    by (some n) e u = record { kind = rw e; width = rw e (said n e) }
-
--- ---- the form at the front
-
-pub and-true : (t : Bool) → (t && true) ≡ t
-and-true true = refl
-and-true false = refl
-
-module _ (s : List ℕ) (bytes : AllBytes s) (used : headOf s .kind ≡ unusedKind → ⊥) where
-  at-front : HeadFormat s
-  at-front = head-format s bytes used
-
-  integer-by : headOf s .kind ≡ integerKind → (r : Option Int) → formBy (getD s 0 0) r ≡ integerFormBy (getD s 0 0) (headOf s .count) r
-  unfolding isShort isShortInteger
-  integer-by k none = refl
-  integer-by k (some i) = rw (at-front .width, at-front .kind, k)
-
-  -- an integer's, by its width
-  pub integer-form : headOf s .kind ≡ integerKind → formAt s ≡ integerFormBy (getD s 0 0) (headOf s .count) (readInteger s)
+  -- an integer's, by what its reader says
+  pub integer-form : headOf s .kind ≡ integerKind → formAt s ≡ integerFormBy (shortFront s (readInteger s)) (readInteger s)
   unfolding argumentAt
-  integer-form k = rw (eq-eqb _ _ k) (integer-by k (readInteger s))
+  integer-form k = rw (eq-eqb _ _ k) (integer-by (readInteger s))
 
   -- of any other, by the length of its head
-  pub other-form : (headOf s .kind ≡ integerKind → ⊥) → (n : ℕ) → n ≡ argumentOf (headOf s .kind) (getD s 0 0) (headOf s .count)
+  pub other-form : AllBytes s → (headOf s .kind ≡ unusedKind → ⊥) → (headOf s .kind ≡ integerKind → ⊥) → (n : ℕ)
+      → n ≡ argumentOf (headOf s .kind) (getD s 0 0) (headOf s .count)
       → formAt s ≡ record { argument = plus n; short = eqb (headOf s .size - 1) (shortWidth (headOf s .kind) (plus n)) }
-  unfolding argumentAt isShort signedWell
-  other-form k n e =
-      let unsigned : isSigned (getD s 0 0) ≡ false
-      = signed-integer (getD s 0 0) (bytes .below 0) (λ (i : kindOf (formatOf (getD s 0 0)) ≡ integerKind). k (sym (at-front .kind) ∙ i)) in
-      rw (ne-eqb _ _ k, ← e, at-front .width, at-front .kind, ne-eqb _ _ k, unsigned, and-true)
+  unfolding argumentAt
+  other-form bytes used k n e = rw (ne-eqb _ _ k, ← e, other-short s bytes used k n)

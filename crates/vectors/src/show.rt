@@ -38,15 +38,15 @@ pub(crate) fn say_passed(p: Passed) {
 
 pub(crate) fn say_integer(i: Integer) {
     match i {
-        Integer::NonNegative(n) => say_number(b'+', n as usize),
-        Integer::Negative(n) => say_number(b'-', n as usize),
+        Integer::NonNegative(n, _) => say_number(b'+', n as usize),
+        Integer::Negative(n, _) => say_number(b'-', n as usize),
         Integer::Missing => say_missing(),
     }
 }
 
 pub(crate) fn say_content(c: Content) {
     match c {
-        Content::Part { start, len } => {
+        Content::Part { start, len, .. } => {
             say_number(b'@', start);
             say_number(b'l', len);
         }
@@ -63,7 +63,7 @@ pub(crate) fn say_boolean(b: Boolean) {
 
 pub(crate) fn say_items(i: Items) {
     match i {
-        Items::Counted { count, size } => {
+        Items::Counted { count, size, .. } => {
             say_number(b'n', count);
             say_number(b'@', size);
         }
