@@ -136,7 +136,8 @@ containers-wasteful = refl
 integers-said :
     (shortFront (100 ∷ []) (readInteger (100 ∷ [])) ≡ true) × (shortFront (0xcc ∷ 100 ∷ []) (readInteger (0xcc ∷ 100 ∷ [])) ≡ false)
     × (shortFront (0xd0 ∷ 100 ∷ []) (readInteger (0xd0 ∷ 100 ∷ [])) ≡ false)
-unfolding isShort argumentWidth shortWidth fixedHolds fitsIn signedWell isSigned formatOf formats readInteger isWhole headOf integerOf twosComplement numberAt holds big little
+unfolding isShort argumentWidth shortWidth fixedHolds fitsIn signedWell isSigned formatOf formats readInteger isWhole headOf integerOf twosComplement numberAt
+    holds big little
 integers-said = (refl, refl, refl)
 
 -- a text of two bytes in both forms, an array of 15 in array 16, and a text that is cut

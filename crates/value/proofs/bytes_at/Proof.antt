@@ -31,8 +31,8 @@ read-binary-requires c κs = search needs
 enum-known-start : tie.Need-enum-known-start
 enum-known-start c = search needs
 
-add-t11 : tie.Need-add-t11
-add-t11 c = let a = c .before .before .before .before .before .before .args in
+add-t12 : tie.Need-add-t12
+add-t12 c = let a = c .before .before .before .before .before .before .args in
     omega (arith, part-inside binaryKind _ _ (read c), length-drop (a .p) (a .map .now))
 
 enum-told : tie.Need-enum-told
@@ -53,7 +53,7 @@ bytes-at-spec =
     part-read-binary-end
     read-binary-requires
     enum-known-start
-    add-t11
+    add-t12
     enum-told
     returns
     returns-2)
