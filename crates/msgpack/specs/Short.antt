@@ -132,6 +132,15 @@ containers-wasteful : someShort
 unfolding isShort argumentWidth shortWidth fixedHolds fitsIn signedWell isSigned formatOf formats
 containers-wasteful = refl
 
+-- each half of the rule by itself: an array of 16 has two bytes for it, and 100 is in int 8 as it never is
+array-width : shortWidth arrayKind (plus 16) ≡ 2
+unfolding shortWidth fixedHolds fitsIn
+array-width = refl
+
+signed-never : signedWell 0xd0 (plus 100) ≡ false
+unfolding signedWell isSigned
+signed-never = refl
+
 -- 100 in one byte, and in uint 8 and int 8
 integers-said :
     (shortFront (100 ∷ []) (readInteger (100 ∷ [])) ≡ true) × (shortFront (0xcc ∷ 100 ∷ []) (readInteger (0xcc ∷ 100 ∷ [])) ≡ false)
