@@ -38,18 +38,18 @@ module _ (s : List ℕ) where
 
   -- ---- where a reader finds something, it says of the form what `formAt` does
 
-  pub integer-said : (i : Int) → readInteger s ≡ some i → shortFront s (readInteger s) ≡ formAt s .short
-  integer-said i e = sym (ap (λ (f : Form). f .short) (integer-form (kind e)) ∙ rw e)
+  integer-kind : (i : Int) → readInteger s ≡ some i → headOf s .kind ≡ integerKind
+  unfolding readInteger
+  integer-kind i e = by (isWhole integerKind (headOf s) (length s)) refl e
     where
-      kind : readInteger s ≡ some i → headOf s .kind ≡ integerKind
-      unfolding readInteger
-      kind e = by (isWhole integerKind (headOf s) (length s)) refl e
-        where
-          by : (t : Bool) → isWhole integerKind (headOf s) (length s) ≡ t
-              → cond t (some (integerOf (getD s 0 0) (headOf s .count) (big (take (headOf s .count) (drop (headOf s .size) s))))) none ≡ some i
-              → headOf s .kind ≡ integerKind
-          by true w q = is-whole integerKind (headOf s) (length s) w .of-kind
-          by false w q = absurd-numbers (cc)
+      by : (t : Bool) → isWhole integerKind (headOf s) (length s) ≡ t
+          → cond t (some (integerOf (getD s 0 0) (headOf s .count) (big (take (headOf s .count) (drop (headOf s .size) s))))) none ≡ some i
+          → headOf s .kind ≡ integerKind
+      by true w q = is-whole integerKind (headOf s) (length s) w .of-kind
+      by false w q = absurd-numbers (cc)
+
+  pub integer-said : (i : Int) → readInteger s ≡ some i → shortFront s (readInteger s) ≡ formAt s .short
+  integer-said i e = sym (ap (λ (f : Form). f .short) (integer-form (integer-kind i e)) ∙ rw e)
 
   of-count : textKind ≤ headOf s .kind → (headOf s .kind ≡ extensionKind → ⊥) → isShort (getD s 0 0) (plus (headOf s .count)) ≡ formAt s .short
   unfolding argumentAt argumentOf
