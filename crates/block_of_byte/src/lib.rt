@@ -48,7 +48,7 @@ fn source_length(stride: u64, delta: Integer, left: u64) -> Length
     ensures { λ r. ⌜ lengthOf r ≡ atMost left (movedBy stride (integerRead delta)) ⌝ }
 {
     match delta {
-        Integer::NonNegative(n) => {
+        Integer::NonNegative(n, _) => {
             if left < n {
                 return Length::Below;
             }
@@ -57,7 +57,7 @@ fn source_length(stride: u64, delta: Integer, left: u64) -> Length
             }
             Length::Of(stride + n)
         }
-        Integer::Negative(n) => {
+        Integer::Negative(n, _) => {
             if stride < n {
                 return Length::Below;
             }
@@ -85,7 +85,7 @@ fn delta_at(part: &[u8], deltas: Numbers, k: usize, at: usize) -> Integer
     ensures { λ r. ⌜ integerRead r ≡ cond (leb (deltas .count) k) (some (plus 0)) (readInteger (drop at (now (part .entry)))) ⌝ }
 {
     if deltas.count <= k {
-        return Integer::NonNegative(0);
+        return Integer::NonNegative(0, true);
     }
     msgpack::read_integer(slices::from(part, at))
 }

@@ -3,7 +3,7 @@ use Prim.Native.Nat.{ℕ, _+_, _*_, _-_, _^_, _≤_, _<_}
 use mathlib.Core.Bool.{true, cond}
 use mathlib.Core.List.{List, [], _∷_}
 use mathlib.Core.Option.{Option, none, some}
-use mathlib.Core.Path.{_≡_, refl, _∙_}
+use mathlib.Core.Path.{_≡_, refl}
 use native.Mathlib.Omega.{arith}
 use borrow.Author.Tests.{leb-true, eq-eqb}
 use lib.Dec.{leb, eqb}
@@ -11,12 +11,13 @@ use lib.ListN.{length, getD, take, drop, length-drop}
 use lib.Seq.{length-take-le}
 use Rattle.slices.specs.Bytes.{AllBytes, take-bytes, drop-bytes}
 use Rattle.slices.specs.Tables.{agree}
-use Rattle.endian.specs.Numbers.{little, big, big-lt}
+use Rattle.endian.specs.Numbers.{big, big-lt}
 use Rattle.endian.specs.Places.{numberAt}
 use Rattle.msgpack.specs.Formats.{integerKind, kindOf, widthOf, amountOf, formats, formatOf}
 use Rattle.msgpack.specs.Items.{headBy, headOf}
 use Rattle.msgpack.specs.Readers.{half}
-use Rattle.msgpack.specs.HeadLaws.{NumberRead, number-read}
+use Rattle.msgpack.specs.HeadLaws.{number-read}
+use Rattle.msgpack.specs.ShortLaws.{nothing-read}
 
 -- an integer's format counts no bytes but its own, 8 at most
 integer-format : (b : ℕ) → b < 256 → kindOf (formatOf b) ≡ integerKind → widthOf (formatOf b) * 9 + amountOf (formatOf b) ≤ 8
@@ -25,10 +26,6 @@ integer-format b h k =
     let all : cond (eqb (kindOf (formatOf b)) integerKind) (leb (widthOf (formatOf b) * 9 + amountOf (formatOf b)) 8) true ≡ true
     = agree (λ k. cond (eqb (kindOf (formatOf k)) integerKind) (leb (widthOf (formatOf k) * 9 + amountOf (formatOf k)) 8) true) (λ k. true) 256 refl b h in
     leb-true (widthOf (formatOf b) * 9 + amountOf (formatOf b)) 8 (rw (eq-eqb _ _ k) at all)
-
-nothing-read : (s : List ℕ) (w n : ℕ) → w ≡ 0 → NumberRead big s 1 w n → n ≡ 0
-unfolding big little
-nothing-read s w n z r = r .is ∙ rw z
 
 pub integer-narrow : (s : List ℕ) → AllBytes s → headOf s .kind ≡ integerKind → headOf s .count ≤ 8
 unfolding headOf

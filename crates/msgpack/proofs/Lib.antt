@@ -3,3 +3,4 @@ mod Codes
 mod Updates
 mod Maps
 mod Integers
+mod Forms

@@ -1,10 +1,12 @@
 pub mod Formats
 pub mod Items
 pub mod Readers
+pub mod Short
 pub mod Lookup
 pub mod Pairs
 pub mod Views
 pub mod HeadLaws
+pub mod ShortLaws
 pub mod PassingLaws
 pub mod Passages
 pub mod ReaderLaws

@@ -1,6 +1,7 @@
--- What stands at the front of a list of bytes: an integer, a boolean, where a text or bytes have their content, the head of an array or map.
+-- What stands at the front of a list of bytes: an integer, a boolean, where a text or bytes have their content, the head of an array or map. What an answer
+-- says besides of the form, `..Short`, is told in Short.antt.
 use Prim.Native.Nat.{ℕ, _+_, _-_, _/_, _^_}
-use mathlib.Core.Bool.{Bool, cond, _&&_}
+use mathlib.Core.Bool.{Bool, false, cond, _&&_}
 use mathlib.Core.List.{List}
 use mathlib.Core.Option.{Option, none, some}
 use lib.Dec.{ltb, leb, eqb}
@@ -50,8 +51,12 @@ abbrev pub readBinary : List ℕ → Option Part
 readBinary s = contentAt binaryKind s
 
 abbrev pub partOf : Content → Option Part
-partOf (content-answer.Part start len) = some (part start len)
+partOf (content-answer.Part start len short) = some (part start len)
 partOf content-answer.Missing = none
+
+abbrev pub partShort : Content → Bool
+partShort (content-answer.Part start len short) = short
+partShort content-answer.Missing = false
 
 -- ---- boolean
 
@@ -92,9 +97,14 @@ readInteger s =
     none
 
 abbrev pub integerRead : Integer → Option Int
-integerRead (integer-answer.NonNegative n) = some (plus n)
-integerRead (integer-answer.Negative n) = some (minus n)
+integerRead (integer-answer.NonNegative n short) = some (plus n)
+integerRead (integer-answer.Negative n short) = some (minus n)
 integerRead integer-answer.Missing = none
+
+abbrev pub integerShort : Integer → Bool
+integerShort (integer-answer.NonNegative n short) = short
+integerShort (integer-answer.Negative n short) = short
+integerShort integer-answer.Missing = false
 
 -- ---- the head of an array or map
 
@@ -116,5 +126,9 @@ abbrev pub readMap : List ℕ → Option Counted
 readMap s = countAt mapKind s
 
 abbrev pub countedOf : Items → Option Counted
-countedOf (items-answer.Counted count size) = some (counted count size)
+countedOf (items-answer.Counted count size short) = some (counted count size)
 countedOf items-answer.Missing = none
+
+abbrev pub countedShort : Items → Bool
+countedShort (items-answer.Counted count size short) = short
+countedShort items-answer.Missing = false

@@ -2,11 +2,13 @@
 // looked up in a map by a text key.
 ghost use mathlib.Core.Option.{some};
 ghost use mathlib.Core.Path.{_≡_};
-ghost use Prim.Native.Nat.{_≤_, _<_, _^_};
+ghost use Prim.Native.Nat.{_-_, _≤_, _<_, _^_};
+ghost use lib.Dec.{eqb};
 ghost use lib.ListN.{length, drop, getD};
-ghost use Rattle.msgpack.specs.Formats.{arrayKind, formatOf};
+ghost use Rattle.msgpack.specs.Formats.{integerKind, arrayKind, formatOf};
 ghost use Rattle.msgpack.specs.Items.{head, headRead, HeadAt, itemsOf, passItems, passItem, passOver, passageOf};
-ghost use Rattle.msgpack.specs.Readers.{isWhole, contentAt, readText, readBinary, partOf, readBoolean, booleanOf, twosComplement, integerOf, readInteger, integerRead, countAt, readArray, readMap, countedOf};
+ghost use Rattle.msgpack.specs.Readers.{isWhole, contentAt, readText, readBinary, partOf, partShort, readBoolean, booleanOf, plus, minus, twosComplement, integerOf, readInteger, integerRead, integerShort, countAt, readArray, readMap, countedOf, countedShort};
+ghost use Rattle.msgpack.specs.Short.{fixedHolds, shortWidth, isSigned, shortFront, lengthRead, countRead, IntegerTold};
 ghost use Rattle.msgpack.specs.Pairs.{codeAt, position, pairOf, pairAt, Sized, WithValue, NoPairs, PairsFrom, PairsRead};
 use endian::Number;
 
@@ -229,6 +231,80 @@ pub fn pass_over(s: &[u8]) -> Passed
     pass_item(s, 0, head_at(s, 0), ALLOWANCE)
 }
 
+// ---- the short form: the fixed one if it holds the argument, else the least that does
+
+// Whether a first byte alone holds n: an integer, a length or a count, as the kind says.
+fn fixed_holds(kind: usize, n: u64) -> bool
+    ensures { λ r. ⌜ r ≡ fixedHolds kind (plus n) ⌝ }
+{
+    if kind == INTEGER {
+        return n < 128;
+    }
+    if kind == TEXT {
+        return n < 32;
+    }
+    if kind == BINARY {
+        return false;
+    }
+    if kind == EXTENSION {
+        return (n == 1) | (n == 2) | (n == 4) | (n == 8) | (n == 16);
+    }
+    if ARRAY <= kind {
+        return n < 16;
+    }
+    true
+}
+
+// How many bytes the short form of n has for it behind its first byte.
+pub fn short_width(kind: usize, n: u64) -> usize
+    ensures { λ r. ⌜ r ≡ shortWidth kind (plus n) ⌝ }
+{
+    if fixed_holds(kind, n) {
+        return 0;
+    }
+    if n < 256 {
+        return if kind < ARRAY { 1 } else { 2 };
+    }
+    if n < 65536 {
+        return 2;
+    }
+    if n < 4294967296 { 4 } else { 8 }
+}
+
+// The same of the integer -n.
+fn negative_width(n: u64) -> usize
+    ensures { λ r. ⌜ r ≡ shortWidth integerKind (minus n) ⌝ }
+{
+    if n <= 32 {
+        return 0;
+    }
+    if n <= 128 {
+        return 1;
+    }
+    if n <= 32768 {
+        return 2;
+    }
+    if n <= 2147483648 { 4 } else { 8 }
+}
+
+// Whether the first byte is that of a signed integer, int 8 to int 64.
+fn is_signed(b: u8) -> bool
+    ensures { λ r. ⌜ r ≡ isSigned b ⌝ }
+{
+    (0xd0 <= b) & (b < 0xd4)
+}
+
+// Whether a head, of no integer, is the short form of its count.
+fn short_count(h: Head) -> bool
+    requires { ⌜ 0 < h .size ⌝ }
+    ensures { λ r. ⌜ r ≡ eqb (h .size - 1) (shortWidth (h .kind) (plus (h .count))) ⌝ }
+{
+    let width = h.size - 1;
+    width == short_width(h.kind, h.count as u64)
+}
+
+// ---- the readers
+
 // Whether a head is of this kind, and all the bytes that it asks for lie within len.
 fn is_whole(kind: usize, h: Head, len: usize) -> bool
     requires { ⌜ h .size ≤ len ⌝ }
@@ -241,21 +317,29 @@ fn is_whole(kind: usize, h: Head, len: usize) -> bool
     }
 }
 
-// The content of a text, or of bytes: where it starts and how long it is; or that none is there whole.
+// The content of a text, or of bytes: where it starts, how long it is, and whether its head is the short
+// one; or that none is there whole.
 pub enum Content {
-    Part { start: usize, len: usize },
+    Part {
+        start: usize,
+        len: usize,
+        short: bool,
+    },
     Missing,
 }
 
 // The content of the text or bytes at the front of s, as the kind says.
 fn content_at(kind: usize, s: &[u8]) -> Content
+    requires { ⌜ integerKind < kind ⌝ }
     ensures { λ r. ⌜ partOf r ≡ contentAt kind (now (s .entry)) ⌝ }
+    ensures short { λ r. ⌜ partShort r ≡ shortFront (now (s .entry)) (lengthRead (contentAt kind (now (s .entry)))) ⌝ }
 {
     let h = head_at(s, 0);
     if is_whole(kind, h, s.len()) {
         Content::Part {
             start: h.size,
             len: h.count,
+            short: short_count(h),
         }
     } else {
         Content::Missing
@@ -265,6 +349,7 @@ fn content_at(kind: usize, s: &[u8]) -> Content
 // The text at the front of s.
 pub fn read_text(s: &[u8]) -> Content
     ensures { λ r. ⌜ partOf r ≡ readText (now (s .entry)) ⌝ }
+    ensures short { λ r. ⌜ partShort r ≡ shortFront (now (s .entry)) (lengthRead (readText (now (s .entry)))) ⌝ }
 {
     content_at(TEXT, s)
 }
@@ -272,6 +357,7 @@ pub fn read_text(s: &[u8]) -> Content
 // The bytes at the front of s.
 pub fn read_binary(s: &[u8]) -> Content
     ensures { λ r. ⌜ partOf r ≡ readBinary (now (s .entry)) ⌝ }
+    ensures short { λ r. ⌜ partShort r ≡ shortFront (now (s .entry)) (lengthRead (readBinary (now (s .entry)))) ⌝ }
 {
     content_at(BINARY, s)
 }
@@ -293,11 +379,27 @@ pub fn read_boolean(s: &[u8]) -> Boolean
     }
 }
 
-// An integer from -2^63 to 2^64 - 1, by its magnitude; or that none is there whole.
+// An integer from -2^63 to 2^64 - 1, by its magnitude, and whether its form is the short one; or that
+// none is there whole.
 pub enum Integer {
-    NonNegative(u64),
-    Negative(u64),
+    NonNegative(u64, bool),
+    Negative(u64, bool),
     Missing,
+}
+
+// The integer n, in the form with this first byte and width bytes behind it.
+fn non_negative(b: u8, width: usize, n: u64) -> Integer
+    ensures { λ r. ⌜ IntegerTold b width (plus n) r ⌝ }
+{
+    Integer::NonNegative(n, (width == short_width(INTEGER, n)) & !is_signed(b))
+}
+
+// The integer -n, in a form with width bytes behind its first byte.
+fn negative(width: usize, n: u64) -> Integer
+    ensures { λ r. ⌜ integerRead r ≡ some (minus n) ⌝ }
+    ensures short { λ r. ⌜ integerShort r ≡ eqb width (shortWidth integerKind (minus n)) ⌝ }
+{
+    Integer::Negative(n, width == negative_width(n))
 }
 
 // Half of the numbers of 0 to 8 bytes.
@@ -313,40 +415,41 @@ const HALVES: [u64; 9] = [
     0x8000_0000_0000_0000,
 ];
 
-// The number n of width bytes, in two's complement. 2^64 need not be held.
-fn twos_complement(width: usize, n: u64) -> Integer
+// The number n of width bytes behind this first byte, in two's complement. 2^64 need not be held.
+fn twos_complement(b: u8, width: usize, n: u64) -> Integer
     requires { ⌜ (width ≤ 8) × (n < 256 ^ width) ⌝ }
-    ensures { λ r. ⌜ integerRead r ≡ some (twosComplement width n) ⌝ }
+    ensures { λ r. ⌜ IntegerTold b width (twosComplement width n) r ⌝ }
 {
     let half = HALVES[width];
     if n < half {
-        Integer::NonNegative(n)
+        non_negative(b, width, n)
     } else {
-        Integer::Negative(half - (n - half))
+        negative(width, half - (n - half))
     }
 }
 
 // The integer with this first byte, whose width bytes after it are the number n.
 fn integer_of(b: u8, width: usize, n: u64) -> Integer
     requires { ⌜ (width ≤ 8) × (n < 256 ^ width) ⌝ }
-    ensures { λ r. ⌜ integerRead r ≡ some (integerOf b width n) ⌝ }
+    ensures { λ r. ⌜ IntegerTold b width (integerOf b width n) r ⌝ }
 {
     let first = b as u64;
     if first < 0x80 {
-        return Integer::NonNegative(first);
+        return non_negative(b, width, first);
     }
     if first < 0xd0 {
-        return Integer::NonNegative(n);
+        return non_negative(b, width, n);
     }
     if first < 0xe0 {
-        return twos_complement(width, n);
+        return twos_complement(b, width, n);
     }
-    Integer::Negative(256 - first)
+    negative(width, 256 - first)
 }
 
 // The integer at the front of s.
 pub fn read_integer(s: &[u8]) -> Integer
     ensures { λ r. ⌜ integerRead r ≡ readInteger (now (s .entry)) ⌝ }
+    ensures short { λ r. ⌜ integerShort r ≡ shortFront (now (s .entry)) (readInteger (now (s .entry))) ⌝ }
 {
     let h = head_at(s, 0);
     if is_whole(INTEGER, h, s.len()) {
@@ -362,21 +465,28 @@ pub fn read_integer(s: &[u8]) -> Integer
     }
 }
 
-// The head of an array or map: how many items, or pairs, and its own length.
+// The head of an array or map: how many items, or pairs, its own length, and whether it is the short one.
 pub enum Items {
-    Counted { count: usize, size: usize },
+    Counted {
+        count: usize,
+        size: usize,
+        short: bool,
+    },
     Missing,
 }
 
 // The head of the array or map at the front of s, as the kind says.
 fn count_at(kind: usize, s: &[u8]) -> Items
+    requires { ⌜ integerKind < kind ⌝ }
     ensures { λ r. ⌜ countedOf r ≡ countAt kind (now (s .entry)) ⌝ }
+    ensures short { λ r. ⌜ countedShort r ≡ shortFront (now (s .entry)) (countRead (countAt kind (now (s .entry)))) ⌝ }
 {
     let h = head_at(s, 0);
     if h.kind == kind {
         Items::Counted {
             count: h.count,
             size: h.size,
+            short: short_count(h),
         }
     } else {
         Items::Missing
@@ -386,6 +496,7 @@ fn count_at(kind: usize, s: &[u8]) -> Items
 // The head of an array at the front of s.
 pub fn read_array(s: &[u8]) -> Items
     ensures { λ r. ⌜ countedOf r ≡ readArray (now (s .entry)) ⌝ }
+    ensures short { λ r. ⌜ countedShort r ≡ shortFront (now (s .entry)) (countRead (readArray (now (s .entry)))) ⌝ }
 {
     count_at(ARRAY, s)
 }
@@ -393,6 +504,7 @@ pub fn read_array(s: &[u8]) -> Items
 // The head of a map at the front of s.
 pub fn read_map(s: &[u8]) -> Items
     ensures { λ r. ⌜ countedOf r ≡ readMap (now (s .entry)) ⌝ }
+    ensures short { λ r. ⌜ countedShort r ≡ shortFront (now (s .entry)) (countRead (readMap (now (s .entry)))) ⌝ }
 {
     count_at(MAP, s)
 }

@@ -1,6 +1,6 @@
 -- The form of the item at a place, and how passing over short items goes on there.
 use Prim.Native.Nat.{ℕ, zero, suc, _+_, _-_, _≤_, _<_}
-use mathlib.Core.Bool.{true}
+use mathlib.Core.Bool.{Bool, true}
 use mathlib.Core.List.{List}
 use mathlib.Core.Option.{Option}
 use mathlib.Core.Path.{_≡_, refl, sym, ap, _∙_}
@@ -16,9 +16,9 @@ use Rattle.refusals.specs.Answers.{result, refused}
 use Rattle.msgpack.specs.Formats.{unusedKind, integerKind, arrayKind}
 use Rattle.msgpack.specs.Items.{Head, Passage, whole, cut, tooDeep, headOf, itemsOf, beyond, passItems, passItem, depthAllowed, passOver}
 use Rattle.msgpack.specs.Readers.{Int, plus, readInteger}
+use Rattle.msgpack.specs.Short.{shortWidth, shortFront}
 use Rattle.msgpack.specs.PassingLaws.{head-within, too-deep, unused, flat-whole, flat-cut}
 use Rattle.msgpack.specs.Passages.{item-inside, head-inside}
-use Rattle.msgpack_forms.specs.Short.{shortWidth}
 use Rattle.msgpack_forms.specs.Items.{argumentOf, Form, integerFormBy, formAt, shortItem, isWholePassage, allShort, item, itemAt}
 use Rattle.msgpack_forms.specs.FormLaws.{integer-form, other-form}
 use Rattle.msgpack_forms.specs.ShortLaws.{short-zero, short-flat, short-within, short-unused, short-whole}
@@ -36,18 +36,17 @@ some-size s h e u =
     let size : h .size ≡ headOf s .size = ap (λ (h : Head). h .size) e in
     omega arith
 
+-- what is read there, and what its reader says of its form
+pub integer-at : (at : ℕ) (s : List ℕ) (h : Head) → h ≡ headOf (drop at s) → h .kind ≡ integerKind → (r : Option Int) → r ≡ readInteger (drop at s)
+    → (short : Bool) → short ≡ shortFront (drop at s) (readInteger (drop at s)) → integerFormBy short r ≡ formAt (drop at s)
+integer-at at s h e k r is short form = rw (form, is) (sym (integer-form (drop at s) (sym (ap (λ (h : Head). h .kind) e) ∙ k)))
+
 module _ (at : ℕ) (s : List ℕ) (bytes : AllBytes s) (h : Head) (e : h ≡ headOf (drop at s)) (u : h .kind ≡ unusedKind → ⊥) where
   first : getD (drop at s) 0 0 ≡ getD s at 0
   first = getD-drop at s 0 0 ∙ ap (λ (k : ℕ). getD s k 0) (add-zero at)
 
   used : headOf (drop at s) .kind ≡ unusedKind → ⊥
   used k = u (ap (λ (h : Head). h .kind) e ∙ k)
-
-  pub integer-at : h .kind ≡ integerKind → (r : Option Int) → r ≡ readInteger (drop at s)
-      → integerFormBy (getD s at 0) (h .count) r ≡ formAt (drop at s)
-  integer-at k r is =
-      let here : headOf (drop at s) .kind ≡ integerKind = sym (ap (λ (h : Head). h .kind) e) ∙ k in
-      sym (integer-form (drop at s) (drop-bytes at bytes) used here ∙ rw (← e, first, ← is))
 
   pub other-at : (h .kind ≡ integerKind → ⊥) → (n : ℕ) → n ≡ argumentOf (h .kind) (getD s at 0) (h .count) → (short : ℕ) → short ≡ shortWidth (h .kind) (plus n)
       → record { argument = plus n; short = eqb (h .size - 1) short } ≡ formAt (drop at s)

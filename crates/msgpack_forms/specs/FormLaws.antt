@@ -1,95 +1,81 @@
--- Laws of forms: the form of the item at the front, from its head.
-use Prim.Native.Nat.{ℕ, _+_, _-_, _<_}
-use mathlib.Core.Bool.{Bool, true, false, cond, not, _&&_}
-use mathlib.Core.List.{List, [], _∷_}
+-- Laws of forms: the form of the item at the front, from its head; and that what the readers of `msgpack` say of it is the same.
+use Prim.Native.Nat.{ℕ, _-_, _≤_}
+use mathlib.Core.Bool.{Bool, true, false, cond}
+use mathlib.Core.List.{List}
 use mathlib.Core.Option.{Option, none, some}
 use mathlib.Core.Path.{_≡_, refl, sym, ap, _∙_}
 use native.Mathlib.Omega.{arith}
-use borrow.Author.Tests.{eq-eqb, ne-eqb, eqb-true}
+use borrow.Author.Tests.{eq-eqb, ne-eqb, eqb-true, le-leb}
 use lib.Dec.{eqb}
 use lib.ListN.{length, getD, take, drop}
 use Rattle.slices.specs.Bytes.{AllBytes}
-use Rattle.slices.specs.Tables.{agree}
-use Rattle.endian.specs.Numbers.{little, big}
-use Rattle.endian.specs.Places.{numberAt}
-use Rattle.msgpack.specs.Formats.{unusedKind, integerKind, kindOf, widthOf, amountOf, formats, formatOf}
-use Rattle.msgpack.specs.Items.{headBy, headOf}
-use Rattle.msgpack.specs.Readers.{Int, plus, readInteger}
-use Rattle.msgpack.specs.HeadLaws.{NumberRead, number-read}
-use Rattle.msgpack_forms.specs.Short.{shortWidth, argumentWidth, isSigned, signedWell, isShort, isShortInteger}
+use Rattle.slices.specs.Logic.{absurd-numbers}
+use Rattle.endian.specs.Numbers.{big}
+use Rattle.msgpack.specs.Formats.{unusedKind, booleanKind, integerKind, textKind, extensionKind, arrayKind}
+use Rattle.msgpack.specs.Items.{headOf}
+use Rattle.msgpack.specs.Readers.{isWhole, Part, part, contentAt, Int, plus, integerOf, readInteger, Counted, counted, countAt}
+use Rattle.msgpack.specs.Short.{shortWidth, isShort, shortFront, lengthRead, countRead}
+use Rattle.msgpack.specs.ShortLaws.{other-short}
+use Rattle.msgpack.specs.ReaderLaws.{is-whole}
 use Rattle.msgpack_forms.specs.Items.{argumentOf, argumentAt, Form, formBy, integerFormBy, formAt}
 
--- ---- the first byte's format, and the head
+module _ (s : List ℕ) where
+  integer-by : (r : Option Int) → formBy (getD s 0 0) r ≡ integerFormBy (shortFront s r) r
+  integer-by none = refl
+  integer-by (some i) = refl
 
--- an integer's format has no number that counts
-integer-width : (b : ℕ) → b < 256 → kindOf (formatOf b) ≡ integerKind → widthOf (formatOf b) ≡ 0
-unfolding formatOf formats
-integer-width b h k =
-    let all : cond (eqb (kindOf (formatOf b)) integerKind) (eqb (widthOf (formatOf b)) 0) true ≡ true
-    = agree (λ k. cond (eqb (kindOf (formatOf k)) integerKind) (eqb (widthOf (formatOf k)) 0) true) (λ k. true) 256 refl b h in
-    eqb-true (widthOf (formatOf b)) 0 (rw (eq-eqb _ _ k) at all)
-
--- only integers have signed forms
-signed-integer : (b : ℕ) → b < 256 → (kindOf (formatOf b) ≡ integerKind → ⊥) → isSigned b ≡ false
-unfolding formatOf formats isSigned
-signed-integer b h k =
-    rw (ne-eqb _ _ k) at (agree (λ k. cond (eqb (kindOf (formatOf k)) integerKind) false (isSigned k)) (λ k. false) 256 refl b h)
-
-nothing-read : (s : List ℕ) (w n : ℕ) → w ≡ 0 → NumberRead big s 1 w n → n ≡ 0
-unfolding big little
-nothing-read s w n z r = r .is ∙ rw z
-
--- what the head says of its first byte's format
-pub record HeadFormat (s : List ℕ) : Type 0 where
-  pub kind : kindOf (formatOf (getD s 0 0)) ≡ headOf s .kind
-  pub width : argumentWidth (getD s 0 0) ≡ cond (eqb (headOf s .kind) integerKind) (headOf s .count) (headOf s .size - 1)
-
-pub head-format : (s : List ℕ) → AllBytes s → (headOf s .kind ≡ unusedKind → ⊥) → HeadFormat s
-unfolding headOf argumentWidth
-head-format [] bytes used = absurd (used refl)
-head-format (b ∷ t) bytes used = by (numberAt big (b ∷ t) 1 (widthOf (formatOf b))) refl used
-  where
-    said : (n : ℕ) → numberAt big (b ∷ t) 1 (widthOf (formatOf b)) ≡ some n
-        → cond (eqb (kindOf (formatOf b)) integerKind) (amountOf (formatOf b)) (widthOf (formatOf b))
-        ≡ cond (eqb (kindOf (formatOf b)) integerKind) (amountOf (formatOf b) + n) (1 + widthOf (formatOf b) - 1)
-    said n e = go (eqb (kindOf (formatOf b)) integerKind) refl
-      where
-        go : (i : Bool) → eqb (kindOf (formatOf b)) integerKind ≡ i
-            → cond i (amountOf (formatOf b)) (widthOf (formatOf b)) ≡ cond i (amountOf (formatOf b) + n) (1 + widthOf (formatOf b) - 1)
-        go true i =
-            let none-counted = integer-width b (bytes .below 0) (eqb-true _ _ i) in
-            omega (arith, nothing-read (b ∷ t) (widthOf (formatOf b)) n none-counted (number-read big (b ∷ t) 1 (widthOf (formatOf b)) n e))
-        go false i = omega arith
-
-    by : (r : Option ℕ) → numberAt big (b ∷ t) 1 (widthOf (formatOf b)) ≡ r → (headBy (formatOf b) r .kind ≡ unusedKind → ⊥) → HeadFormat (b ∷ t)
-    by none e u = absurd (u refl)
-    by (some n) e u = record { kind = rw e; width = rw e (said n e) }
-
--- ---- the form at the front
-
-pub and-true : (t : Bool) → (t && true) ≡ t
-and-true true = refl
-and-true false = refl
-
-module _ (s : List ℕ) (bytes : AllBytes s) (used : headOf s .kind ≡ unusedKind → ⊥) where
-  at-front : HeadFormat s
-  at-front = head-format s bytes used
-
-  integer-by : headOf s .kind ≡ integerKind → (r : Option Int) → formBy (getD s 0 0) r ≡ integerFormBy (getD s 0 0) (headOf s .count) r
-  unfolding isShort isShortInteger
-  integer-by k none = refl
-  integer-by k (some i) = rw (at-front .width, at-front .kind, k)
-
-  -- an integer's, by its width
-  pub integer-form : headOf s .kind ≡ integerKind → formAt s ≡ integerFormBy (getD s 0 0) (headOf s .count) (readInteger s)
+  -- an integer's, by what its reader says
+  pub integer-form : headOf s .kind ≡ integerKind → formAt s ≡ integerFormBy (shortFront s (readInteger s)) (readInteger s)
   unfolding argumentAt
-  integer-form k = rw (eq-eqb _ _ k) (integer-by k (readInteger s))
+  integer-form k = rw (eq-eqb _ _ k) (integer-by (readInteger s))
 
   -- of any other, by the length of its head
-  pub other-form : (headOf s .kind ≡ integerKind → ⊥) → (n : ℕ) → n ≡ argumentOf (headOf s .kind) (getD s 0 0) (headOf s .count)
+  pub other-form : AllBytes s → (headOf s .kind ≡ unusedKind → ⊥) → (headOf s .kind ≡ integerKind → ⊥) → (n : ℕ)
+      → n ≡ argumentOf (headOf s .kind) (getD s 0 0) (headOf s .count)
       → formAt s ≡ record { argument = plus n; short = eqb (headOf s .size - 1) (shortWidth (headOf s .kind) (plus n)) }
-  unfolding argumentAt isShort signedWell
-  other-form k n e =
-      let unsigned : isSigned (getD s 0 0) ≡ false
-      = signed-integer (getD s 0 0) (bytes .below 0) (λ (i : kindOf (formatOf (getD s 0 0)) ≡ integerKind). k (sym (at-front .kind) ∙ i)) in
-      rw (ne-eqb _ _ k, ← e, at-front .width, at-front .kind, ne-eqb _ _ k, unsigned, and-true)
+  unfolding argumentAt
+  other-form bytes used k n e = rw (ne-eqb _ _ k, ← e, other-short s bytes used k n)
+
+  -- ---- where a reader finds something, it says of the form what `formAt` does
+
+  integer-kind : (i : Int) → readInteger s ≡ some i → headOf s .kind ≡ integerKind
+  unfolding readInteger
+  integer-kind i e = by (isWhole integerKind (headOf s) (length s)) refl e
+    where
+      by : (t : Bool) → isWhole integerKind (headOf s) (length s) ≡ t
+          → cond t (some (integerOf (getD s 0 0) (headOf s .count) (big (take (headOf s .count) (drop (headOf s .size) s))))) none ≡ some i
+          → headOf s .kind ≡ integerKind
+      by true w q = is-whole integerKind (headOf s) (length s) w .of-kind
+      by false w q = absurd-numbers (cc)
+
+  pub integer-said : (i : Int) → readInteger s ≡ some i → shortFront s (readInteger s) ≡ formAt s .short
+  integer-said i e = sym (ap (λ (f : Form). f .short) (integer-form (integer-kind i e)) ∙ rw e)
+
+  of-count : textKind ≤ headOf s .kind → (headOf s .kind ≡ extensionKind → ⊥) → isShort (getD s 0 0) (plus (headOf s .count)) ≡ formAt s .short
+  unfolding argumentAt argumentOf
+  of-count l x =
+      let no-integer : headOf s .kind ≡ integerKind → ⊥ = λ e. omega arith in
+      let no-boolean : headOf s .kind ≡ booleanKind → ⊥ = λ e. omega arith in
+      rw (ne-eqb _ _ no-integer, ne-eqb _ _ no-boolean, ne-eqb _ _ x, le-leb _ _ l)
+
+  module _ (kind : ℕ) where
+    pub content-said : textKind ≤ kind → (kind ≡ extensionKind → ⊥) → (p : Part) → contentAt kind s ≡ some p
+        → shortFront s (lengthRead (contentAt kind s)) ≡ formAt s .short
+    unfolding contentAt
+    content-said l x p e = by (isWhole kind (headOf s) (length s)) refl e
+      where
+        by : (t : Bool) → isWhole kind (headOf s) (length s) ≡ t → cond t (some (part (headOf s .size) (headOf s .count))) none ≡ some p
+            → shortFront s (lengthRead (cond t (some (part (headOf s .size) (headOf s .count))) none)) ≡ formAt s .short
+        by true w q = let k = is-whole kind (headOf s) (length s) w .of-kind in of-count (rw k l) (λ (i : headOf s .kind ≡ extensionKind). x (sym k ∙ i))
+        by false w q = absurd-numbers (cc)
+
+    pub count-said : arrayKind ≤ kind → (c : Counted) → countAt kind s ≡ some c → shortFront s (countRead (countAt kind s)) ≡ formAt s .short
+    unfolding countAt
+    count-said l c e = by (eqb (headOf s .kind) kind) refl e
+      where
+        by : (t : Bool) → eqb (headOf s .kind) kind ≡ t → cond t (some (counted (headOf s .count) (headOf s .size))) none ≡ some c
+            → shortFront s (countRead (cond t (some (counted (headOf s .count) (headOf s .size))) none)) ≡ formAt s .short
+        by true w q =
+            let k : headOf s .kind ≡ kind = eqb-true _ _ w in
+            of-count (omega arith) (λ (i : headOf s .kind ≡ extensionKind). omega arith)
+        by false w q = absurd-numbers (cc)

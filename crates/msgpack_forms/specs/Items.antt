@@ -9,7 +9,7 @@ use Rattle.refusals.specs.Answers.{Answer, result, refused}
 use Rattle.msgpack.specs.Formats.{booleanKind, integerKind, textKind, extensionKind}
 use Rattle.msgpack.specs.Items.{Passage, whole, cut, tooDeep, headOf, passItems, passHead, depthAllowed, passOver}
 use Rattle.msgpack.specs.Readers.{Int, plus, minus, readInteger}
-use Rattle.msgpack_forms.specs.Short.{isShort, isShortInteger}
+use Rattle.msgpack.specs.Short.{isShort}
 use Rattle.msgpack_forms.specs.declared.Form as declared
 use Rattle.msgpack_forms.specs.declared.Item as declared-item
 use Rattle.msgpack_forms.specs.declared.Front as front
@@ -37,10 +37,10 @@ abbrev pub formBy : ℕ → Option Int → Form
 formBy b (some i) = record { argument = i; short = isShort b i }
 formBy b none = record { argument = plus 0; short = false }
 
--- the same of an integer with this first byte and w bytes behind it
-abbrev pub integerFormBy : ℕ → ℕ → Option Int → Form
-integerFormBy b w (some i) = record { argument = i; short = isShortInteger b w i }
-integerFormBy b w none = record { argument = plus 0; short = false }
+-- the same of an integer, by what its reader says of its form
+abbrev pub integerFormBy : Bool → Option Int → Form
+integerFormBy short (some i) = record { argument = i; short = short }
+integerFormBy short none = record { argument = plus 0; short = false }
 
 abbrev pub formAt : List ℕ → Form
 formAt s = formBy (getD s 0 0) (argumentAt s)

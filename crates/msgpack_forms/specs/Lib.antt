@@ -1,4 +1,3 @@
-pub mod Short
 pub mod Items
 pub mod FormLaws
 pub mod ShortLaws

@@ -1,71 +1,16 @@
 // Request 8: the item at the front of a slice with its form, and whether all forms of an item are
-// short. The readers of crate msgpack stay as they are; what they read is asked for its form here.
+// short.
 ghost use mathlib.Core.Bool.{true};
 ghost use mathlib.Core.Path.{_≡_};
 ghost use Prim.Native.Nat.{_≤_, _<_, _^_};
 ghost use lib.ListN.{drop, getD};
-ghost use Rattle.msgpack.specs.Formats.{unusedKind, integerKind, arrayKind};
+ghost use Rattle.msgpack.specs.Formats.{unusedKind, arrayKind};
 ghost use Rattle.msgpack.specs.Items.{headRead, HeadAt, itemsOf, passItems, passageOf};
-ghost use Rattle.msgpack.specs.Readers.{plus, minus, integerRead};
-ghost use Rattle.msgpack_forms.specs.Short.{fixedHolds, shortWidth, isSigned};
+ghost use Rattle.msgpack.specs.Readers.{integerRead, integerShort};
 ghost use Rattle.msgpack_forms.specs.Items.{argumentOf, integerFormBy, formRead, formAt, shortItem, allShort, itemAt, itemRead};
 use msgpack::Head;
 use msgpack::Integer;
 use msgpack::Passed;
-
-// Whether a first byte alone holds n: an integer, a length or a count, as the kind says.
-fn fixed_holds(kind: usize, n: u64) -> bool
-    ensures { λ r. ⌜ r ≡ fixedHolds kind (plus n) ⌝ }
-{
-    if kind == msgpack::INTEGER {
-        return n < 128;
-    }
-    if kind == msgpack::TEXT {
-        return n < 32;
-    }
-    if kind == msgpack::BINARY {
-        return false;
-    }
-    if kind == msgpack::EXTENSION {
-        return (n == 1) | (n == 2) | (n == 4) | (n == 8) | (n == 16);
-    }
-    if msgpack::ARRAY <= kind {
-        return n < 16;
-    }
-    true
-}
-
-// How many bytes the short form of n has for it behind its first byte.
-fn short_width(kind: usize, n: u64) -> usize
-    ensures { λ r. ⌜ r ≡ shortWidth kind (plus n) ⌝ }
-{
-    if fixed_holds(kind, n) {
-        return 0;
-    }
-    if n < 256 {
-        return if kind < msgpack::ARRAY { 1 } else { 2 };
-    }
-    if n < 65536 {
-        return 2;
-    }
-    if n < 4294967296 { 4 } else { 8 }
-}
-
-// The same of the integer -n.
-fn negative_width(n: u64) -> usize
-    ensures { λ r. ⌜ r ≡ shortWidth integerKind (minus n) ⌝ }
-{
-    if n <= 32 {
-        return 0;
-    }
-    if n <= 128 {
-        return 1;
-    }
-    if n <= 32768 {
-        return 2;
-    }
-    if n <= 2147483648 { 4 } else { 8 }
-}
 
 // What an item says, as an integer, by its magnitude; and whether it stands in its short form.
 struct Form {
@@ -74,27 +19,20 @@ struct Form {
     short: bool,
 }
 
-// Whether the first byte is that of a signed integer, int 8 to int 64.
-fn is_signed(b: u8) -> bool
-    ensures { λ r. ⌜ r ≡ isSigned b ⌝ }
-{
-    (0xd0 <= b) & (b < 0xd4)
-}
-
-// The form of an integer with this first byte and width bytes behind it.
-fn integer_form(b: u8, width: usize, i: Integer) -> Form
-    ensures { λ r. ⌜ formRead r ≡ integerFormBy b width (integerRead i) ⌝ }
+// The form of an integer that was read.
+fn integer_form(i: Integer) -> Form
+    ensures { λ r. ⌜ formRead r ≡ integerFormBy (integerShort i) (integerRead i) ⌝ }
 {
     match i {
-        Integer::NonNegative(n) => Form {
+        Integer::NonNegative(n, short) => Form {
             argument: n,
             negative: false,
-            short: (width == short_width(msgpack::INTEGER, n)) & !is_signed(b),
+            short,
         },
-        Integer::Negative(n) => Form {
+        Integer::Negative(n, short) => Form {
             argument: n,
             negative: true,
-            short: width == negative_width(n),
+            short,
         },
         Integer::Missing => Form {
             argument: 0,
@@ -127,14 +65,14 @@ fn form_at(s: &[u8], at: usize, h: Head) -> Form
     let count = h.count;
     let b = s[at];
     if kind == msgpack::INTEGER {
-        return integer_form(b, count, msgpack::read_integer(&s[at..]));
+        return integer_form(msgpack::read_integer(&s[at..]));
     }
     let n = argument_of(kind, b, count);
     let width = size - 1;
     Form {
         argument: n as u64,
         negative: false,
-        short: width == short_width(kind, n as u64),
+        short: width == msgpack::short_width(kind, n as u64),
     }
 }
 

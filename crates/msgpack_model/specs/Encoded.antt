@@ -18,7 +18,7 @@ use Rattle.msgpack.specs.Formats.{unusedKind, integerKind, textKind, binaryKind
 use Rattle.msgpack.specs.Items.{Head, head, headOf}
 use Rattle.msgpack.specs.Readers.{Int, plus, minus}
 use Rattle.msgpack_heads.specs.Heads.{Form, form, formBytes, sizedForm, unsignedForm, textHead, binaryHead, unsignedInteger, arrayHead, mapHead}
-use Rattle.msgpack_forms.specs.Short.{fixedHolds, shortWidth, argumentWidth, isSigned, signedWell, isShort}
+use Rattle.msgpack.specs.Short.{fixedHolds, shortWidth, argumentWidth, isSigned, signedWell, isShort}
 use Rattle.msgpack_forms.specs.Items.{argumentOf, argumentAt, formAt}
 use Rattle.msgpack_model.specs.Values.{Value, Nil, Boolean, Integer, Float, Text, Binary, Extension, Array, Map, Values, no-values, value, Pairs, no-pairs, pair, countValues, countPairs}
 use Rattle.msgpack_model.specs.Encoding.{Number, Signed, non-negative, negative, TextHead, fixstr, str8, str16, str32, BinaryHead, bin8, bin16, bin32, ExtensionHead, fixext1, fixext2, fixext4, fixext8, fixext16, ext8, ext16, ext32, ArrayHead, fixarray, array16, array32, MapHead, fixmap, map16, map32, Scalar, nil, false-byte, true-byte, positive-fixint, negative-fixint, uint8, uint16, uint32, uint64, int8, int16, int32, int64, float32, float64, text, binary, extension, Encodes, scalar, array, map, EncodesValues, none, next, EncodesPairs, no-pair, next-pair}

@@ -12,7 +12,7 @@ use Rattle.endian.specs.Numbers.{bigBytes, littleBytes, bytes-of-big}
 use Rattle.msgpack.specs.Formats.{integerKind, textKind, binaryKind, extensionKind, arrayKind, mapKind, formats, formatOf}
 use Rattle.msgpack.specs.Readers.{Int, plus, minus}
 use Rattle.msgpack_heads.specs.Heads.{Form, form, formBytes, sizedForm, textForm, unsignedForm, containerForm, textHead, binaryHead, unsignedInteger, arrayHead, mapHead}
-use Rattle.msgpack_forms.specs.Short.{fixedHolds, fitsIn, shortWidth, argumentWidth, isSigned, signedWell, isShort}
+use Rattle.msgpack.specs.Short.{fixedHolds, fitsIn, shortWidth, argumentWidth, isSigned, signedWell, isShort}
 use Rattle.msgpack_model.specs.Encoding.{Number, Signed, non-negative, negative, TextHead, fixstr, str8, str16, str32, BinaryHead, bin8, bin16, bin32, ExtensionHead, fixext1, fixext2, fixext4, fixext8, fixext16, ext8, ext16, ext32, ArrayHead, fixarray, array16, array32, MapHead, fixmap, map16, map32}
 use Rattle.msgpack_model.specs.Writers.{number-lt, form-length}
 

@@ -134,7 +134,7 @@ fn numbers_under(part: &[u8], at: usize, place: usize) -> NumbersRead
         });
     }
     match msgpack::read_array(slices::from(part, at + place)) {
-        Items::Counted { count, size } => NumbersRead::Numbers(Numbers {
+        Items::Counted { count, size, .. } => NumbersRead::Numbers(Numbers {
             count,
             first: at + place + size,
         }),
@@ -263,12 +263,12 @@ fn deltas_summed(part: &[u8], deltas: Numbers, blocks: usize, source: u64) -> De
     };
     while k < deltas.count {
         match msgpack::read_integer(slices::from(part, at)) {
-            Integer::NonNegative(n) => {
+            Integer::NonNegative(n, _) => {
                 if k < blocks {
                     sums = with_gain(sums, n);
                 }
             }
-            Integer::Negative(n) => {
+            Integer::Negative(n, _) => {
                 if k < blocks {
                     sums = with_loss(sums, n);
                 }

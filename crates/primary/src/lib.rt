@@ -119,7 +119,7 @@ pub fn text_at(part: &[u8], at: usize) -> TextRead
     ensures place { λ r. ⌜ placeOf r ≡ placedAt at (readText (drop at (now (part .entry)))) ⌝ }
 {
     match msgpack::read_text(slices::from(part, at)) {
-        Content::Part { start, len } => TextRead::At(Place {
+        Content::Part { start, len, .. } => TextRead::At(Place {
             start: at + start,
             len,
         }),

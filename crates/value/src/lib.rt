@@ -77,8 +77,8 @@ pub fn natural_at(s: &[u8]) -> Number
     ensures { λ r. ⌜ numberRead r ≡ readNatural (now (s .entry)) ⌝ }
 {
     match msgpack::read_integer(s) {
-        Integer::NonNegative(n) => Number::Read(n),
-        Integer::Negative(_) => Number::Missing,
+        Integer::NonNegative(n, _) => Number::Read(n),
+        Integer::Negative(_, _) => Number::Missing,
         Integer::Missing => Number::Missing,
     }
 }
@@ -99,9 +99,10 @@ fn bytes_at(map: &[u8], p: usize) -> Content
     ensures { λ r. ⌜ partOf r ≡ shifted p (readBinary (drop p (now (map .entry)))) ⌝ }
 {
     match msgpack::read_binary(&map[p..]) {
-        Content::Part { start, len } => Content::Part {
+        Content::Part { start, len, short } => Content::Part {
             start: p + start,
             len,
+            short,
         },
         Content::Missing => Content::Missing,
     }
@@ -147,7 +148,7 @@ fn alone(map: &[u8], places: HeaderPlaces) -> Described
     requires { ⌜ HeaderAt (now map) places ⌝ }
     ensures { λ r. ⌜ toldOf r ≡ headerAlone (now (map .entry)) ⌝ }
 {
-    let Content::Part { start, len } = bytes_under(map, places.e) else {
+    let Content::Part { start, len, .. } = bytes_under(map, places.e) else {
         return Described::Not;
     };
     let Number::Read(compression) = natural_under(map, places.c, Number::Read(0)) else {
@@ -224,7 +225,7 @@ fn with_list(t: Told, s: &[u8]) -> Reading
         (toldWith t (withList byteView packLimit (tellingOf t) (now (s .entry)))) ⌝ }
 {
     match msgpack::read_array(s) {
-        Items::Counted { count, size } => {
+        Items::Counted { count, size, .. } => {
             if count == 0 {
                 return Reading::Told(t);
             }

@@ -1,5 +1,5 @@
 // What is found, printed: numbers behind a letter or a sign. `@` is a place, `l` a length, `n` a count,
-// `k` the code of a key, `2` whether it stands twice.
+// `k` the code of a key, `2` whether it stands twice, `s` whether the form is the short one.
 use libc::STDOUT_FILENO;
 use msgpack::Boolean;
 use msgpack::Content;
@@ -38,17 +38,24 @@ pub(crate) fn say_passed(p: Passed) {
 
 pub(crate) fn say_integer(i: Integer) {
     match i {
-        Integer::NonNegative(n) => say_number(b'+', n as usize),
-        Integer::Negative(n) => say_number(b'-', n as usize),
+        Integer::NonNegative(n, short) => {
+            say_number(b'+', n as usize);
+            say_number(b's', short as usize);
+        }
+        Integer::Negative(n, short) => {
+            say_number(b'-', n as usize);
+            say_number(b's', short as usize);
+        }
         Integer::Missing => say_missing(),
     }
 }
 
 pub(crate) fn say_content(c: Content) {
     match c {
-        Content::Part { start, len } => {
+        Content::Part { start, len, short } => {
             say_number(b'@', start);
             say_number(b'l', len);
+            say_number(b's', short as usize);
         }
         Content::Missing => say_missing(),
     }
@@ -63,9 +70,10 @@ pub(crate) fn say_boolean(b: Boolean) {
 
 pub(crate) fn say_items(i: Items) {
     match i {
-        Items::Counted { count, size } => {
+        Items::Counted { count, size, short } => {
             say_number(b'n', count);
             say_number(b'@', size);
+            say_number(b's', short as usize);
         }
         Items::Missing => say_missing(),
     }

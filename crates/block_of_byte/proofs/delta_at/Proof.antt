@@ -16,7 +16,7 @@ read-integer-requires : tie.Need-read-integer-requires
 read-integer-requires c κs = search needs
 
 returns-2 : tie.Need-returns-2
-returns-2 c = rw (lt-leb _ _ (c .before .before .if1 .left)) (c .read-integer .ensures ∙ ap readInteger (c .before .from .ensures .0))
+returns-2 c = rw (lt-leb _ _ (c .before .before .if1 .left)) (c .read-integer .ensures .0 ∙ ap readInteger (c .before .from .ensures .0))
 
 pub delta-at-spec : {M : Type 1} → statement M
 delta-at-spec = tie.close (tie.spec returns from-requires read-integer-requires returns-2)

@@ -11,6 +11,7 @@ use Rattle.msgpack.specs.Items.{Head, headRead}
 use Rattle.msgpack.specs.Readers.{readInteger}
 use Rattle.msgpack.specs.ReaderLaws.{IsWhole, is-whole, has-byte}
 use Rattle.msgpack.proofs.Integers.{integer-narrow, part-lt}
+use Rattle.msgpack.proofs.Forms.{integer-form}
 use Rattle.msgpack.proofs.read_integer.Statement.{statement}
 use Rattle.msgpack.proofs.read_integer.Tie as tie
 
@@ -62,14 +63,21 @@ returns : tie.Need-returns
 unfolding readInteger
 returns c =
     let t = c .before .before .before .before .before .before in
-    c .integer-of .ensures ∙ rw (← t .before .before .head-at .ensures .is, sym (t .before .is-whole .ensures) ∙ t .if1 .taken, number (c .before .before))
+    let h = t .before .before .head-at in
+    let there = sym (t .before .is-whole .ensures) ∙ t .if1 .taken in
+    let n = number (c .before .before) in (
+      c .integer-of .ensures .value ∙ rw (← h .ensures .is, there, n),
+      c .integer-of .ensures .form ∙ integer-form (t .before .before .before .before .args .s .now) (bytes t) (headRead (h .result)) (h .ensures .is) there _ n,
+    )
 
 returns-2 : tie.Need-returns-2
 returns-2 c = absurd (read-missing big _ _ _ (within (c .before .before .before)) _ (c .before .before .read-big .ensures) (c .enum-told .given .1))
 
 returns-3 : tie.Need-returns-3
 unfolding readInteger
-returns-3 c = rw (← c .before .before .head-at .ensures .is, sym (c .before .is-whole .ensures) ∙ c .if1 .left)
+returns-3 c =
+    let nothing = sym (c .before .is-whole .ensures) ∙ c .if1 .left in
+    (rw (← c .before .before .head-at .ensures .is, nothing), rw (← c .before .before .head-at .ensures .is, nothing))
 
 pub read-integer-spec : {M : Type 1} → statement M
 read-integer-spec =

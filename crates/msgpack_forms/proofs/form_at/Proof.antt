@@ -7,6 +7,7 @@ use lib.ListN.{length}
 use Rattle.slices.specs.Lists.{part-to-end}
 use Rattle.msgpack.specs.Items.{headRead}
 use Rattle.msgpack.specs.Readers.{readInteger}
+use Rattle.msgpack.specs.Short.{shortFront}
 use Rattle.msgpack_forms.proofs.Places.{begins-inside, some-size, integer-at, other-at}
 use Rattle.msgpack_forms.proofs.form_at.Statement.{statement}
 use Rattle.msgpack_forms.proofs.form_at.Tie as tie
@@ -37,9 +38,11 @@ returns : tie.Need-returns
 returns c =
     let t = c .before .before .before in
     let a = t .before .before .before in
+    let rest = part-to-end (a .args .at) (a .args .s .now) in
+    let r = c .before .read-integer .ensures in
     c .integer-form .ensures
-    ∙ integer-at (a .args .at) (a .args .s .now) (record { below = λ k. t .before .before .shared-slice-known .given k .fits }) (headRead (a .args .h))
-    (a .pre .0 .is) (a .pre .1) (t .if1 .taken) _ (c .before .read-integer .ensures ∙ ap readInteger (part-to-end (a .args .at) (a .args .s .now)))
+    ∙ integer-at (a .args .at) (a .args .s .now) (headRead (a .args .h)) (a .pre .0 .is) (t .if1 .taken)
+    _ (r .0 ∙ ap readInteger rest) _ (r .1 ∙ ap (λ s. shortFront s (readInteger s)) rest)
 
 argument-of-requires : tie.Need-argument-of-requires
 argument-of-requires c κs = search needs

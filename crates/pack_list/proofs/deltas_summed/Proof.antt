@@ -50,7 +50,7 @@ in-loop c = c .before .before .before .before
 -- what was read
 read : (c : tie.After-read-integer Inv-loop μ-loop)
     → integerRead (c .read-integer .result) ≡ readInteger (drop (in-loop c .loop .at) (at-start c .args .part .now))
-read c = c .read-integer .ensures ∙ ap readInteger (c .before .from .ensures .0)
+read c = c .read-integer .ensures .0 ∙ ap readInteger (c .before .from .ensures .0)
 
 returns : tie.Need-returns Inv-loop μ-loop
 returns c =

@@ -39,7 +39,7 @@ read-array-requires : tie.Need-read-array-requires
 read-array-requires c κs = search needs
 
 array-read : (c : tie.After-read-array) → countedOf (c .read-array .result) ≡ readArray (value-at (c .before .before .before .before))
-array-read c = c .read-array .ensures ∙ ap readArray (c .before .from .ensures .0)
+array-read c = c .read-array .ensures .0 ∙ ap readArray (c .before .from .ensures .0)
 
 enum-known-count : tie.Need-enum-known-count
 enum-known-count c = search needs

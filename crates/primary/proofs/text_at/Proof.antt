@@ -26,7 +26,7 @@ text-read : (c : tie.After-known-told)
     → some (part (c .before .start .given .0 .0) (c .before .start .given .0 .1 .0)) ≡ readText (drop (c .before .before .before .before .before .before .args .at) (c .before .before .before .before .before .before .args .part .now))
 text-read c =
     let d = c .before .before .before in
-    sym (ap partOf (c .before .start .given .1)) ∙ d .read-text .ensures ∙ ap readText (d .before .from .ensures .0)
+    sym (ap partOf (c .before .start .given .1)) ∙ d .read-text .ensures .0 ∙ ap readText (d .before .from .ensures .0)
 
 text-told : (c : tie.After-known-told)
     → (some (take (c .before .start .given .0 .1 .0) (drop (c .before .before .before .before .before .before .args .at + c .before .start .given .0 .0) (c .before .before .before .before .before .before .args .part .now))) ≡ textAt (drop (c .before .before .before .before .before .before .args .at) (c .before .before .before .before .before .before .args .part .now)))
@@ -48,7 +48,7 @@ returns-2 : tie.Need-returns-2
 returns-2 c =
     let d = c .before .before in
     let a = d .before .before .before .args in
-    let e = sym (ap partOf (c .enum-told .given .1)) ∙ d .read-text .ensures ∙ ap readText (d .before .from .ensures .0) in
+    let e = sym (ap partOf (c .enum-told .given .1)) ∙ d .read-text .ensures .0 ∙ ap readText (d .before .from .ensures .0) in
     (text-missing (a .part .now) (a .at) e, (no-text _, ap (placedAt (a .at)) e))
 
 pub text-at-spec : {M : Type 1} → statement M

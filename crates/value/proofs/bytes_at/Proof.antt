@@ -14,7 +14,7 @@ use Rattle.value.proofs.bytes_at.Tie as tie
 read : (c : tie.After-known-told) → readBinary (drop (c .before .before .before .before .before .before .args .p) (c .before .before .before .before .before .before .args .map .now)) ≡ some (part (c .before .start .given .0 .0) (c .before .start .given .0 .1 .0))
 read c =
     let a = c .before .before .before .before .before .before .args in
-    sym (ap readBinary (part-to-end (a .p) (a .map .now))) ∙ sym (c .before .before .before .read-binary .ensures) ∙ ap partOf (c .before .start .given .1)
+    sym (ap readBinary (part-to-end (a .p) (a .map .now))) ∙ sym (c .before .before .before .read-binary .ensures .0) ∙ ap partOf (c .before .start .given .1)
 
 sub-read-binary : tie.Need-sub-read-binary
 sub-read-binary c = search needs
@@ -31,18 +31,18 @@ read-binary-requires c κs = search needs
 enum-known-start : tie.Need-enum-known-start
 enum-known-start c = search needs
 
-add-t11 : tie.Need-add-t11
-add-t11 c = let a = c .before .before .before .before .before .before .args in
+add-t12 : tie.Need-add-t12
+add-t12 c = let a = c .before .before .before .before .before .before .args in
     omega (arith, part-inside binaryKind _ _ (read c), length-drop (a .p) (a .map .now))
 
 enum-told : tie.Need-enum-told
 enum-told c = search needs
 
 returns : tie.Need-returns
-returns c = rw (← part-to-end (c .before .before .before .before .before .before .args .p) (c .before .before .before .before .before .before .args .map .now), ← c .before .before .before .read-binary .ensures, c .before .start .given .1)
+returns c = rw (← part-to-end (c .before .before .before .before .before .before .args .p) (c .before .before .before .before .before .before .args .map .now), ← c .before .before .before .read-binary .ensures .0, c .before .start .given .1)
 
 returns-2 : tie.Need-returns-2
-returns-2 c = rw (← part-to-end (c .before .before .before .before .before .args .p) (c .before .before .before .before .before .args .map .now), ← c .before .before .read-binary .ensures, c .enum-told .given .1)
+returns-2 c = rw (← part-to-end (c .before .before .before .before .before .args .p) (c .before .before .before .before .before .args .map .now), ← c .before .before .read-binary .ensures .0, c .enum-told .given .1)
 
 pub bytes-at-spec : {M : Type 1} → statement M
 bytes-at-spec =
@@ -53,7 +53,7 @@ bytes-at-spec =
     part-read-binary-end
     read-binary-requires
     enum-known-start
-    add-t11
+    add-t12
     enum-told
     returns
     returns-2)

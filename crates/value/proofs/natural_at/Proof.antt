@@ -20,15 +20,15 @@ enum-told-2 c = search needs
 
 returns : tie.Need-returns
 unfolding readNatural
-returns c = ap atLeastZero (sym (ap integerRead (c .before .n .given .1)) ∙ c .before .before .before .read-integer .ensures)
+returns c = ap atLeastZero (sym (ap integerRead (c .before .n .given .1)) ∙ c .before .before .before .read-integer .ensures .0)
 
 returns-2 : tie.Need-returns-2
 unfolding readNatural
-returns-2 c = ap atLeastZero (sym (ap integerRead (c .enum-told .given .1)) ∙ c .before .before .read-integer .ensures)
+returns-2 c = ap atLeastZero (sym (ap integerRead (c .enum-told .given .1)) ∙ c .before .before .read-integer .ensures .0)
 
 returns-3 : tie.Need-returns-3
 unfolding readNatural
-returns-3 c = ap atLeastZero (sym (ap integerRead (c .enum-told2 .given .1)) ∙ c .before .before .read-integer .ensures)
+returns-3 c = ap atLeastZero (sym (ap integerRead (c .enum-told2 .given .1)) ∙ c .before .before .read-integer .ensures .0)
 
 pub natural-at-spec : {M : Type 1} → statement M
 natural-at-spec =

@@ -14,7 +14,7 @@ use Rattle.value.proofs.with_list.Statement.{statement}
 use Rattle.value.proofs.with_list.Tie as tie
 
 items-read : (c : tie.After-known-told) → readArray (c .before .before .before .before .before .args .s .now) ≡ some (counted (c .before .count .given .0 .0) (c .before .count .given .0 .1 .0))
-items-read c = sym (c .before .before .before .read-array .ensures) ∙ ap countedOf (c .before .count .given .1)
+items-read c = sym (c .before .before .before .read-array .ensures .0) ∙ ap countedOf (c .before .count .given .1)
 
 read-array-requires : tie.Need-read-array-requires
 read-array-requires c κs = search needs
@@ -56,7 +56,7 @@ returns-3 : tie.Need-returns-3
 returns-3 c = rw (list-longer _ _ _ _ _ (items-read (c .before .before)) (c .before .if1 .left) (c .if2 .left))
 
 returns-4 : tie.Need-returns-4
-returns-4 c = rw (no-list _ _ _ (sym (c .before .before .read-array .ensures) ∙ ap countedOf (c .enum-told .given .1)))
+returns-4 c = rw (no-list _ _ _ (sym (c .before .before .read-array .ensures .0) ∙ ap countedOf (c .enum-told .given .1)))
 
 pub with-list-spec : {M : Type 1} → statement M
 with-list-spec =

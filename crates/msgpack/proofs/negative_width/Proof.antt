@@ -1,8 +1,8 @@
--- `msgpack_forms::negative_width` meets its contract: the tests are the definition's.
+-- `msgpack::negative_width` meets its contract: the tests are the definition's.
 use borrow.Author.Tests.{le-leb, lt-leb}
-use Rattle.msgpack_forms.specs.Short.{fixedHolds, fitsIn, shortWidth}
-use Rattle.msgpack_forms.proofs.negative_width.Statement.{statement}
-use Rattle.msgpack_forms.proofs.negative_width.Tie as tie
+use Rattle.msgpack.specs.Short.{fixedHolds, fitsIn, shortWidth}
+use Rattle.msgpack.proofs.negative_width.Statement.{statement}
+use Rattle.msgpack.proofs.negative_width.Tie as tie
 
 returns : tie.Need-returns
 unfolding shortWidth fixedHolds fitsIn

@@ -1,10 +1,10 @@
--- `msgpack_forms::short_width` meets its contract: the tests are the definition's.
+-- `msgpack::short_width` meets its contract: the tests are the definition's.
 use mathlib.Core.Path.{sym, _∙_}
 use borrow.Author.Needs.{needs}
 use borrow.Author.Tests.{lt-ltb, le-ltb}
-use Rattle.msgpack_forms.specs.Short.{fitsIn, shortWidth}
-use Rattle.msgpack_forms.proofs.short_width.Statement.{statement}
-use Rattle.msgpack_forms.proofs.short_width.Tie as tie
+use Rattle.msgpack.specs.Short.{fitsIn, shortWidth}
+use Rattle.msgpack.proofs.short_width.Statement.{statement}
+use Rattle.msgpack.proofs.short_width.Tie as tie
 
 fixed-holds-requires : tie.Need-fixed-holds-requires
 fixed-holds-requires c κs = search needs

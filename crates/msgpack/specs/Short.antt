@@ -3,10 +3,16 @@
 use Prim.Native.Nat.{ℕ, _^_}
 use mathlib.Core.Bool.{Bool, true, false, cond, not, _&&_, _||_}
 use mathlib.Core.List.{List, [], _∷_}
+use mathlib.Core.Option.{Option, none, some}
 use mathlib.Core.Path.{_≡_, refl}
 use lib.Dec.{ltb, leb, eqb}
+use lib.ListN.{getD}
+use Rattle.endian.specs.Numbers.{little, big}
+use Rattle.endian.specs.Places.{holds, numberAt}
 use Rattle.msgpack.specs.Formats.{integerKind, textKind, binaryKind, extensionKind, arrayKind, kindOf, widthOf, amountOf, formats, formatOf}
-use Rattle.msgpack.specs.Readers.{Int, plus, minus, half}
+use Rattle.msgpack.specs.Items.{headOf}
+use Rattle.msgpack.specs.Readers.{isWhole, Part, contentAt, readText, Int, plus, minus, half, twosComplement, integerOf, readInteger, integerRead, integerShort, Counted, countAt, readArray}
+use Rattle.msgpack.specs.declared.Integer.{Integer}
 
 -- ---- the argument: an integer itself, the length of a content, an array's items, a map's pairs
 
@@ -54,6 +60,28 @@ isShort b i = eqb (argumentWidth b) (shortWidth (kindOf (formatOf b)) i) && sign
 -- the same of an integer, by its width
 unfoldable pub isShortInteger : ℕ → ℕ → Int → Bool
 isShortInteger b width i = eqb width (shortWidth integerKind i) && signedWell b i
+
+-- ---- what the readers say of the form
+
+-- the form at the front is the short one of the argument that was read there; it is not, where none was
+abbrev pub shortFront : List ℕ → Option Int → Bool
+shortFront s (some i) = isShort (getD s 0 0) i
+shortFront s none = false
+
+-- the argument of a text or bytes: the length of the content
+abbrev pub lengthRead : Option Part → Option Int
+lengthRead (some p) = some (plus (p .size))
+lengthRead none = none
+
+-- of an array or map: its items or pairs
+abbrev pub countRead : Option Counted → Option Int
+countRead (some c) = some (plus (c .count))
+countRead none = none
+
+-- an answer that tells this integer, in the form with this first byte and w bytes behind it
+pub record IntegerTold (b w : ℕ) (i : Int) (r : Integer) : Type 0 where
+  pub value : integerRead r ≡ some i
+  pub form : integerShort r ≡ isShortInteger b w i
 
 -- ---- examples: both sides of each border, as first bytes and arguments
 
@@ -103,3 +131,30 @@ containers-wasteful : someShort
     ((0xdc, plus 15) ∷ (0xdd, plus 65535) ∷ (0xde, plus 15) ∷ (0xdf, plus 65535) ∷ []) ≡ false
 unfolding isShort argumentWidth shortWidth fixedHolds fitsIn signedWell isSigned formatOf formats
 containers-wasteful = refl
+
+-- each half of the rule by itself: an array of 16 has two bytes for it, and 100 is in int 8 as it never is
+array-width : shortWidth arrayKind (plus 16) ≡ 2
+unfolding shortWidth fixedHolds fitsIn
+array-width = refl
+
+signed-never : signedWell 0xd0 (plus 100) ≡ false
+unfolding signedWell isSigned
+signed-never = refl
+
+-- 100 in one byte, and in uint 8 and int 8
+integers-said :
+    (shortFront (100 ∷ []) (readInteger (100 ∷ [])) ≡ true) × (shortFront (0xcc ∷ 100 ∷ []) (readInteger (0xcc ∷ 100 ∷ [])) ≡ false)
+    × (shortFront (0xd0 ∷ 100 ∷ []) (readInteger (0xd0 ∷ 100 ∷ [])) ≡ false)
+unfolding isShort argumentWidth shortWidth fixedHolds fitsIn signedWell isSigned formatOf formats readInteger isWhole headOf integerOf twosComplement numberAt
+    holds big little
+integers-said = (refl, refl, refl)
+
+-- a text of two bytes in both forms, an array of 15 in array 16, and a text that is cut
+counts-said :
+    (shortFront (0xa2 ∷ 104 ∷ 105 ∷ []) (lengthRead (readText (0xa2 ∷ 104 ∷ 105 ∷ []))) ≡ true)
+    × (shortFront (0xd9 ∷ 2 ∷ 104 ∷ 105 ∷ []) (lengthRead (readText (0xd9 ∷ 2 ∷ 104 ∷ 105 ∷ []))) ≡ false)
+    × (shortFront (0x9f ∷ []) (countRead (readArray (0x9f ∷ []))) ≡ true)
+    × (shortFront (0xdc ∷ 0 ∷ 15 ∷ []) (countRead (readArray (0xdc ∷ 0 ∷ 15 ∷ []))) ≡ false)
+    × (shortFront (0xa2 ∷ 104 ∷ []) (lengthRead (readText (0xa2 ∷ 104 ∷ []))) ≡ false)
+unfolding isShort argumentWidth shortWidth fixedHolds fitsIn signedWell isSigned formatOf formats contentAt countAt isWhole headOf numberAt holds big little
+counts-said = (refl, refl, refl, refl, refl)

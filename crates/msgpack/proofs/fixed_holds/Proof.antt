@@ -1,8 +1,8 @@
--- `msgpack_forms::fixed_holds` meets its contract: the tests are the definition's.
+-- `msgpack::fixed_holds` meets its contract: the tests are the definition's.
 use borrow.Author.Tests.{eq-eqb, ne-eqb, le-leb, lt-leb}
-use Rattle.msgpack_forms.specs.Short.{fixedHolds}
-use Rattle.msgpack_forms.proofs.fixed_holds.Statement.{statement}
-use Rattle.msgpack_forms.proofs.fixed_holds.Tie as tie
+use Rattle.msgpack.specs.Short.{fixedHolds}
+use Rattle.msgpack.proofs.fixed_holds.Statement.{statement}
+use Rattle.msgpack.proofs.fixed_holds.Tie as tie
 
 returns : tie.Need-returns
 unfolding fixedHolds
