@@ -53,7 +53,7 @@ pub record ReadsBack (limit : ℕ) (items : List Item) (buf : List ℕ) : Type 0
 
 -- ---- each item by itself
 
-means : (item : Item) → admitted item ≡ true → (h : RecordHeld) × (heldOf item ≡ result h)
+pub means : (item : Item) → admitted item ≡ true → (h : RecordHeld) × (heldOf item ≡ result h)
 means (block i d) a = (_, refl)
 means (version p) a = by (primary.version p) a
   where

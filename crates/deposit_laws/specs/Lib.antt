@@ -1,0 +1,5 @@
+pub mod Keys
+pub mod Written
+pub mod Calls
+pub mod Blocks
+pub mod Equal
