@@ -111,12 +111,26 @@ module _ (limit : ℕ) (s : List ℕ) where
       is whole q f = (q, none-at-fault (reading limit s .entries) f)
       is (refused n at) q f = absurd-numbers (cc)
 
+  fault-first : (before : List Entry) (e : Entry) (after : List Entry) (n : ℕ) → ((x : Entry) → List·Memᴰ x before → EntryMay x)
+      → entryFault limit s e ≡ some n → firstFault limit s (before ++ (e ∷ after)) ≡ refused n (e .start)
+  unfolding firstFault entryFault
+  fault-first [] e after n may f = rw f
+  fault-first (x ∷ before) e after n may f =
+      rw (fault-exactly limit (x .tag) (spareAt s (x .start)) (valueAt s (x .start) (x .length)) .1 (may x (List·Memᴰ·head refl)))
+      (fault-first before e after n (λ y m. may y (List·Memᴰ·tail m)) f)
+
   -- and another gets the pack's refusal, or that of its first record at fault
   pub refused-exactly : (n at : ℕ) → depositReading limit s .ending ≡ refused n at
-      → (reading limit s .ending ≡ refused n at) ⊎ ((reading limit s .ending ≡ whole) × FirstAtFault (reading limit s .entries) n at)
+      ↔ ((reading limit s .ending ≡ refused n at) ⊎ ((reading limit s .ending ≡ whole) × FirstAtFault (reading limit s .entries) n at))
   unfolding depositReading
-  refused-exactly n at e = is (reading limit s .ending) refl e
+  refused-exactly n at = (is (reading limit s .ending) refl, ⊎-elim (λ q. ap by-ending q) (λ h. ap by-ending (h .0) ∙ first (h .1)))
     where
+      by-ending : Ending → Ending
+      by-ending x = ifWhole x (firstFault limit s (reading limit s .entries))
+
+      first : FirstAtFault (reading limit s .entries) n at → firstFault limit s (reading limit s .entries) ≡ refused n at
+      first f = ap (firstFault limit s) (f .cut) ∙ fault-first (f .before) (f .entry) (f .after) n (f .may) (f .fault) ∙ ap (refused n) (f .stands)
+
       is : (x : Ending) → reading limit s .ending ≡ x → ifWhole x (firstFault limit s (reading limit s .entries)) ≡ refused n at
           → (reading limit s .ending ≡ refused n at) ⊎ ((reading limit s .ending ≡ whole) × FirstAtFault (reading limit s .entries) n at)
       is whole q f = inr (q, first-at-fault (reading limit s .entries) n at f)
@@ -128,7 +142,7 @@ module _ (limit : ℕ) (s : List ℕ) where
   deposit-place n at e = ⊎-elim (reading-bounded limit s .place n at)
       (λ h. let f = h .1 in
       let m : List·Memᴰ (f .entry) (reading limit s .entries) = rw (f .cut) (Memᴰ·append-right (f .before) (List·Memᴰ·head refl)) in
-      omega (arith, reading-bounded limit s .starts (f .entry) m, f .stands)) (refused-exactly n at e)
+      omega (arith, reading-bounded limit s .starts (f .entry) m, f .stands)) (refused-exactly n at .0 e)
 
   pub deposit-count : length (reading limit s .entries) ≤ limit
   deposit-count = omega (arith, reading-bounded limit s .count)

@@ -11,10 +11,10 @@ use Rattle.tlv.specs.Layout.{Record, Fits, layout, layouts, length-layout, fiel
 use Rattle.tlv.specs.Stands as stands
 use Rattle.tlv.specs.Stands.{record-of-layout}
 use Rattle.pack.specs.Reading.{whole, counted}
-use Rattle.pack.specs.Acceptance.{AllFit, entryOf, entriesOf, layouts-accepted}
+use Rattle.pack.specs.Acceptance.{entryOf, entriesOf, layouts-accepted}
 use Rattle.records.specs.Laws.{value-there}
 use Rattle.writer.specs.Writing.{Item, valueOf, itemBytes}
-use Rattle.writer_laws.specs.ReadBack.{AllBytesOf, fits}
+use Rattle.writer_laws.specs.ReadBack.{AllBytesOf, fits, all-fit}
 use Rattle.writer_laws.specs.Calls.{all-written, writeAll, AllAdmitted, recordFor, recordsOf, calls-write}
 use Rattle.deposit.specs.Profile.{faultOf}
 use Rattle.deposit.specs.Packs.{spareAt, valueAt, entryFault, firstFault, depositReading, deposit}
@@ -54,14 +54,6 @@ module _ (limit : ℕ) (small : limit < 2 ^ 32) where
       = rw (← length-append front (itemBytes item), ← grouped) (none-at-fault items (front ++ itemBytes item) (b .1) (a .1) (d .1) (rw grouped l)) in
       rw here later
 
-  all-fit : (items : List Item) → AllBytesOf items → AllAdmitted items → length (layouts (recordsOf items)) ≤ limit → AllFit (recordsOf items)
-  unfolding layouts
-  all-fit [] b a l = tt
-  all-fit (item ∷ items) b a l =
-      let n = length-append (itemBytes item) (layouts (recordsOf items)) in
-      let m = length-layout (recordFor item) in
-      (fits limit small item (b .0) (a .0) (omega arith), all-fit items (b .1) (a .1) (omega arith))
-
   entries-count : (at : ℕ) (items : List Item) → length (entriesOf at (recordsOf items)) ≡ length items
   unfolding entriesOf
   entries-count at [] = refl
@@ -72,7 +64,7 @@ module _ (limit : ℕ) (small : limit < 2 ^ 32) where
       → length (layouts (recordsOf items)) ≤ limit → deposit limit (layouts (recordsOf items)) ≡ counted (length items)
   unfolding depositReading
   records-deposited items b a d l =
-      let read = layouts-accepted limit (layouts (recordsOf items)) l (recordsOf items) (all-fit items b a l) refl in
+      let read = layouts-accepted limit (layouts (recordsOf items)) l (recordsOf items) (all-fit limit small items b a l) refl in
       rw (read, none-at-fault items [] b a d l, entries-count 0 items)
 
   -- THE THEOREM, over calls of the writer

@@ -15,7 +15,8 @@ use Rattle.pack.specs.Reading.{Reading, whole, reading}
 use Rattle.pack.specs.Acceptance.{AllFit, entryOf, entriesOf, accepted-within, accepted-layouts, layouts-accepted}
 use Rattle.identifier.specs.Identity.{Identity}
 use Rattle.records.specs.Record as records
-use Rattle.records.specs.Record.{blockTag, primaryIn, readRecord}
+use Rattle.records.specs.Record.{blockTag, primaryIn, readRecord, atPlace, recordAt}
+use Rattle.records.specs.Laws.{tag-and-value}
 use Rattle.writer.specs.Values.{blockValue}
 use Rattle.writer.specs.Writing.{block, itemBytes}
 use Rattle.deposit.specs.Exactly.{Keeps}
@@ -50,6 +51,22 @@ of-pack limit s bytes accepted e m =
     let entries = ap (λ (x : Reading). x .entries) (layouts-accepted limit s within (old .0) (old .1) (old .2)) in
     subst (λ t. Placed t e) (old .2) (placed (old .0) [] (old .1) e (subst (List·Memᴰ e) entries m))
 
+-- the record at an entry's start is that of its tag and value
+abbrev ReadsBy : ℕ → List ℕ → Entry → Type 0
+ReadsBy limit s e =
+    recordAt limit s (e .start) ≡ atPlace (valueAt s (e .start) (e .length)) (readRecord limit (e .tag) (valueAt s (e .start) (e .length)))
+
+pub record-there : (limit : ℕ) (s : List ℕ) → AllBytes s → reading limit s .ending ≡ whole → (e : Entry) → List·Memᴰ e (reading limit s .entries)
+    → ReadsBy limit s e
+record-there limit s bytes accepted e m =
+    let p = of-pack limit s bytes accepted e m in
+    let t : List ℕ = p .front ++ (layout (p .held) ++ p .rest) in
+    let within : length t ≤ limit = subst (λ u. length u ≤ limit) (p .split) (accepted-within limit s accepted) in
+    let here : ReadsBy limit t (entryOf (length (p .front)) (p .held))
+    = tag-and-value limit (p .front) (p .rest) (p .held) (p .fit) within
+    ∙ ap (λ v. atPlace v (readRecord limit (p .held .tag) v)) (sym (value-at (p .front) (p .rest) (p .held) (p .fit))) in
+    subst (λ u. ReadsBy limit u e) (sym (p .split)) (subst (ReadsBy limit t) (sym (p .is)) here)
+
 -- ---- a block of a pack
 
 -- all its bytes
@@ -78,8 +95,7 @@ module _ (limit : ℕ) (small : limit < 2 ^ 32) (s : List ℕ) (bytes : AllBytes
       let same : may .read ≡ is-block .read = same-result (sym (may .reads) ∙ ap (λ t. readRecord limit t v) (is-block .tag) ∙ is-block .reads) in
       let size : length v ≤ limit = omega (arith, length-take (e .length) (drop (e .start + 32) s), length-drop (e .start + 32) s) in
       let kept = subst (λ r. Keeps blockTag (spareAt s (e .start)) v (primaryIn v (r .told)) (r .contents .identifier .bucket)) same
-      (subst (λ t. Keeps t (spareAt s (e .start)) v (primaryIn v (may .read .told)) (may .read .contents .identifier .bucket)) (is-block .tag) (may .keeps)) in
-      (
+      (subst (λ t. Keeps t (spareAt s (e .start)) v (primaryIn v (may .read .told)) (may .read .contents .identifier .bucket)) (is-block .tag) (may .keeps)) in (
         block-is limit small v (take-bytes (e .length) (drop (e .start + 32) s) (drop-bytes (e .start + 32) bytes)) size (is-block .read)
             (is-block .reads) _ kept ∙ ap₂ blockValue (is-block .identifier) (is-block .data-is),
         may .keeps .spare-zero,

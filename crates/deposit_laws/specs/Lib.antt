@@ -3,3 +3,5 @@ pub mod Written
 pub mod Calls
 pub mod Blocks
 pub mod Equal
+pub mod Holds
+pub mod TellsApart

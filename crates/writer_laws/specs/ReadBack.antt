@@ -83,7 +83,7 @@ module _ (limit : ℕ) (small : limit < 2 ^ 32) where
   pub fits : (item : Item) → AreBytes item → admitted item ≡ true → length (valueOf item) ≤ limit → Fits (recordFor item)
   fits item b a l = record { spare = omega arith; tag = tag-fits item; value = omega arith; bytes = item-bytes limit small item b a l }
 
-  all-fit : (items : List Item) → AllBytesOf items → AllAdmitted items → length (layouts (recordsOf items)) ≤ limit → AllFit (recordsOf items)
+  pub all-fit : (items : List Item) → AllBytesOf items → AllAdmitted items → length (layouts (recordsOf items)) ≤ limit → AllFit (recordsOf items)
   unfolding layouts
   all-fit [] b a l = tt
   all-fit (item ∷ items) b a l =
