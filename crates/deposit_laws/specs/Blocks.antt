@@ -350,7 +350,7 @@ block-is limit small s bytes within r reads spare keeps =
     (subst (λ u. holds limit u d ≡ result (heldIn s (r .told))) v told) in
     let is-header : x .held ≡ values.blockHeader (length d) part
     = v ∙ ap₂ (λ z y. headerOf z y) (h .length-is) (h .primary-is) in
-    let part-bytes : AllBytes part = take-bytes _ _ (drop-bytes _ bytes) in
+    let part-bytes : AllBytes part = take-bytes (r .told .primary .len) (drop (r .told .primary .start) s) (drop-bytes (r .told .primary .start) bytes) in
     let p = part-is part (r .contents) part-bytes (a .primary-tells) (keeps .short-part) (plain .identifier-alone) in
     let size : length part < 2 ^ 32
     = omega (arith, length-take (r .told .primary .len) (drop (r .told .primary .start) s), inside .primary-first, inside .secondary-last) in

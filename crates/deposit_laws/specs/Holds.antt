@@ -71,8 +71,8 @@ module _ (limit : ℕ) (small : limit < 2 ^ 32) where
       let part = version-part-encodes i marker v b in
       let reads = version-reads-back i marker v part in
       let both-so : (isValid i && isUlid u) ≡ true = rw (v, w) in
-      calls-deposited limit small _ buf (v, ap isResult reads, both-so, tt) ((b, c), encoding-bytes part, (b, f), tt)
-      (block-depositable i d n, version-depositable (versionPart i marker) _ reads n (version-keeps i marker v b), deletion-depositable i u n, tt) l m
+      calls-deposited limit small _ buf (v, (ap isResult reads, (both-so, tt))) ((b, c), (encoding-bytes part, ((b, f), tt)))
+      (block-depositable i d n, (version-depositable (versionPart i marker) _ reads n (version-keeps i marker v b), (deletion-depositable i u n, tt))) l m
 
   -- ---- IsBlock: each block that our writer writes, wherever it stands
 
