@@ -60,7 +60,7 @@ fn same_texts(first: &[u8], a: Texts, second: &[u8], b: Texts) -> bool
 // identifier and the same data, and both packs are deposited. Then all bytes of the two are the same.
 pub fn is_same_block(first: &[u8], n: usize, second: &[u8], m: usize) -> bool
     ensures { λ r. ⌜ r ≡ sameBlock (depositedBlock packLimit (now (first .entry)) n) (depositedBlock packLimit (now (second .entry)) m) ⌝ }
-    ensures bytes { λ r. ⌜ r ≡ true → EqualBytes packLimit (now (first .entry)) n (now (second .entry)) m ⌝ }
+    ensures bytes { λ r. ⌜ (r ≡ true → EqualBytes packLimit (now (first .entry)) n (now (second .entry)) m) ⌝ }
 {
     let Held::Block(a) = deposited_block(first, n) else {
         return false;

@@ -12,10 +12,12 @@ use types.Run.{OneOf}
 use lib.Dec.{leb, ltb, eqb}
 use lib.ListN.{length, take, drop}
 use lib.Seq.{drop-drop}
+use Rattle.slices.specs.Bytes.{AllBytes}
 use Rattle.slices.specs.Logic.{absurd-numbers}
 use Rattle.slices.specs.Lists.{part-of-part}
 use Rattle.slices.specs.Places.{partAt}
 use Rattle.slices.specs.declared.Place.{Place}
+use Rattle.refusals.specs.Limit.{packLimit}
 use Rattle.refusals.specs.Answers.{Answer, refused as no-result, result}
 use Rattle.tlv.specs.Found.{Found, end, found, fault, step}
 use Rattle.tlv.specs.declared.RecordHeader.{RecordHeader}
@@ -38,12 +40,9 @@ use Rattle.records.specs.declared.AtPlace as declared-place
 use Rattle.records.specs.declared.AtPlace.the-variants as place-answer
 use Rattle.records.proofs.AtPlace as at-place
 use Rattle.deposit.specs.Packs.{depositReading, deposit}
-use Rattle.deposit.specs.Answers.{outcomeOf}
-use Rattle.deposit.specs.declared.Checked.{Checked}
-use Rattle.deposit.specs.declared.Checked.the-variants as checked-answer
-use Rattle.deposit.proofs.Checked as checked
 use Rattle.deposit_laws.specs.Blocks.{dataIn}
-use Rattle.deposited_blocks.specs.Same.{Block, blockIn, blockAt, ifDeposited, depositedBlock}
+use Rattle.deposited_blocks.specs.Same.{Block, blockIn, blockAt, ifDeposited, depositedBlock, sameBlock, EqualBytes}
+use Rattle.deposited_blocks.specs.Found.{same-block-bytes}
 
 -- ---- the check
 
@@ -126,10 +125,9 @@ module _ (limit : ℕ) (s : List ℕ) (at : ℕ) where
 -- ---- call by call
 
 module _ (limit : ℕ) (s : List ℕ) (n : ℕ) where
-  pub not-deposited : (c : Checked) → outcomeOf c ≡ deposit limit s → OneOf (1 ∷ []) (tagOf checked.the-type c) → none ≡ depositedBlock limit s n
+  pub not-deposited : (k at : ℕ) → refused k at ≡ deposit limit s → none ≡ depositedBlock limit s n
   unfolding depositedBlock
-  not-deposited (checked-answer.Records k) e (z : 0 ≡ 1) = absurd (omega arith)
-  not-deposited (checked-answer.Refused k at) e z = by (depositReading limit s .ending) refl e
+  not-deposited k at e = by (depositReading limit s .ending) refl e
     where
       by : (x : Ending) → depositReading limit s .ending ≡ x → refused k at ≡ outcome (record { entries = depositReading limit s .entries; ending = x })
           → none ≡ ifDeposited x (blockAt limit s (nthYield (reading limit s) n))
@@ -165,3 +163,18 @@ module _ (limit : ℕ) (s : List ℕ) (n : ℕ) where
         pub block-told : (d : declared-record.Record) (v : Place) → there (partAt s v) (recordIn s d) ≡ thereFrom (e .start + 32) (recordAt limit s (e .start))
             → some (record { identifier = textsIn s (d .identifier); content = partAt s (placeOfPart (d .told .secondary)) }) ≡ depositedBlock limit s n
         block-told d v f = block-read limit s (e .start) d v f ∙ sym by-place
+
+-- ---- two of them
+
+module _ (s t : List ℕ) (b : AllBytes s) (c : AllBytes t) (n m : ℕ) where
+  abbrev pub Answers : Bool → Type 0
+  Answers r = (r ≡ sameBlock (depositedBlock packLimit s n) (depositedBlock packLimit t m)) × (r ≡ true → EqualBytes packLimit s n t m)
+
+  -- the theorem, of what the code answers
+  pub answers : (x y : Option Block) → x ≡ depositedBlock packLimit s n → y ≡ depositedBlock packLimit t m → Answers (sameBlock x y)
+  answers x y e f =
+      let same : sameBlock x y ≡ sameBlock (depositedBlock packLimit s n) (depositedBlock packLimit t m) = λ i. sameBlock (e i) (f i) in
+      (same, λ g. same-block-bytes packLimit (omega arith) s t b c n m (sym same ∙ g))
+
+  pub no-first : none ≡ depositedBlock packLimit s n → Answers false
+  no-first e = answers none (depositedBlock packLimit t m) e refl
