@@ -18,7 +18,7 @@ use Rattle.deposit_rules.specs.Keys.{keysFrom, keysOf, isOneOf, areAmong
 use Rattle.deposit_rules.specs.Letters.{writtenKeys}
 use Rattle.deposit_rules.specs.Blocks.{underWhole, hasLengthAlone, hasIdentifierAlone}
 
--- a letter as an item, in its short form and in a longer one; a map of one pair
+-- a letter as an item, in its short form and in a longer one
 abbrev letterItem : ℕ → List ℕ
 letterItem b = 0xa1 ∷ b ∷ []
 

@@ -3,3 +3,4 @@ pub mod Codes
 pub mod Letters
 pub mod Blocks
 pub mod Buckets
+pub mod Examples
