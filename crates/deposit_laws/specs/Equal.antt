@@ -95,7 +95,8 @@ module _ (limit : ℕ) (small : limit < 2 ^ 32) (s : List ℕ) (bytes : AllBytes
       let same : may .read ≡ is-block .read = same-result (sym (may .reads) ∙ ap (λ t. readRecord limit t v) (is-block .tag) ∙ is-block .reads) in
       let size : length v ≤ limit = omega (arith, length-take (e .length) (drop (e .start + 32) s), length-drop (e .start + 32) s) in
       let kept = subst (λ r. Keeps blockTag (spareAt s (e .start)) v (primaryIn v (r .told)) (r .contents .identifier .bucket)) same
-      (subst (λ t. Keeps t (spareAt s (e .start)) v (primaryIn v (may .read .told)) (may .read .contents .identifier .bucket)) (is-block .tag) (may .keeps)) in (
+      (subst (λ t. Keeps t (spareAt s (e .start)) v (primaryIn v (may .read .told)) (may .read .contents .identifier .bucket))
+      (is-block .tag) (may .keeps)) in (
         block-is limit small v (take-bytes (e .length) (drop (e .start + 32) s) (drop-bytes (e .start + 32) bytes)) size (is-block .read)
             (is-block .reads) _ kept ∙ ap₂ blockValue (is-block .identifier) (is-block .data-is),
         may .keeps .spare-zero,
