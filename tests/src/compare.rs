@@ -168,14 +168,11 @@ impl Compare {
     /// A refusal that no input brings would not be compared.
     pub fn all_met(&self) {
         for (function, numbers) in NUMBERS {
-            for &number in numbers {
-                if self.met[function as usize][number] == 0 {
-                    self.fail(
-                        &format!("{function:?}"),
-                        &[],
-                        format!("never gave {number}"),
-                    );
-                }
+            let mut missing = numbers.to_vec();
+            missing.retain(|&number| self.met[function as usize][number] == 0);
+            if !missing.is_empty() {
+                let told = format!("never gave {missing:?}");
+                self.fail(&format!("{function:?}"), &[], told);
             }
         }
     }

@@ -155,7 +155,7 @@ pub fn profiles(compare: &mut Compare, random: &mut Random) {
     }
 }
 
-/// Records of every kind, most of which do not keep it.
+/// Records of every kind, most of which do not keep it; cut, and with a bit changed.
 pub fn any_packs(compare: &mut Compare, random: &mut Random) {
     for _ in 0..10_000 {
         random.faults = random.once_in(3);
@@ -166,6 +166,7 @@ pub fn any_packs(compare: &mut Compare, random: &mut Random) {
         let mut pack = [near(random), record(random, &name)].concat();
         compare.deposit(&pack);
         let at = random.below(pack.len());
+        compare.deposit(&pack[..at]);
         pack[at] ^= 1 << random.below(8);
         compare.deposit(&pack);
     }
