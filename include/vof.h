@@ -89,7 +89,13 @@ enum {
     VOF_REFUSED_NO_ROOM = 19,
     VOF_REFUSED_NOT_ADMITTED = 20,
     VOF_REFUSED_RANGE_IMPOSSIBLE = 21,
-    VOF_REFUSED_KEY_REPEATED = 22
+    VOF_REFUSED_KEY_REPEATED = 22,
+    VOF_REFUSED_NOT_SHORT = 23,
+    VOF_REFUSED_KEY_NOT_GIVEN = 24,
+    VOF_REFUSED_HEADER_ORDER = 25,
+    VOF_REFUSED_BLOCK_FORM = 26,
+    VOF_REFUSED_SPARE_NOT_ZERO = 27,
+    VOF_REFUSED_BUCKET_NAME = 28
 };
 
 /* Why it was refused, by the number. */
@@ -139,6 +145,18 @@ static inline const char *vof_reason(unsigned number) {
         return "a pack list has a range or lengths that cannot be";
     case VOF_REFUSED_KEY_REPEATED:
         return "a key that is read is given twice";
+    case VOF_REFUSED_NOT_SHORT:
+        return "an item is not in its short form";
+    case VOF_REFUSED_KEY_NOT_GIVEN:
+        return "a map has a key that document 001 does not give";
+    case VOF_REFUSED_HEADER_ORDER:
+        return "the header's keys are not the writer's";
+    case VOF_REFUSED_BLOCK_FORM:
+        return "a block's map is not the writer's";
+    case VOF_REFUSED_SPARE_NOT_ZERO:
+        return "byte 28 or 29 is not 0";
+    case VOF_REFUSED_BUCKET_NAME:
+        return "the bucket's name may not be deposited";
     default:
         return "no refusal has this number";
     }
@@ -293,6 +311,15 @@ enum { VOF_EXPLAIN_START, VOF_EXPLAIN_REASON, VOF_EXPLAIN_PLACE, VOF_EXPLAIN_NUM
 uint64_t vof_explain(const uint8_t *pack, size_t pack_length, const uint8_t *bucket,
                      size_t bucket_length, const uint8_t *object, size_t object_length,
                      uint64_t *told, size_t told_length);
+
+/* ---- the deposit profile */
+
+/* Checks a pack against the deposit profile, a narrower rule for packs that are deposited: short forms,
+   document 001's keys, the writer's headers, and bucket names as docs/REFUSALS.md has them in 23 to 28.
+   Word: how many records there are.
+   Refusals: 1 to 8 for the pack; then, of the first record at fault, 9 to 18, 21 or 22, or 23 to 28;
+   each with the place. */
+uint64_t vof_check_deposit(const uint8_t *pack, size_t pack_length);
 
 /* ---- packs in parts
 

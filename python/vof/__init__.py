@@ -253,6 +253,7 @@ _FUNCTIONS = {
     "vof_current": _READ * 3 + _TOLD + [_BYTES, _SIZE],
     "vof_current_with": _READ * 3 + [_HINTS, _SIZE] + _TOLD + [_BYTES, _SIZE],
     "vof_explain": _READ * 3 + _TOLD,
+    "vof_check_deposit": _READ,
     "vof_pipe_start": _TOLD,
     "vof_pipe_take": _TOLD + _READ + _TOLD,
     "vof_pipe_end": _TOLD,
@@ -294,6 +295,8 @@ _library = _load()
 # The refusals that come with a place: a pack's, and those of the lookup in it.
 _OF_PACK = range(1, 9)
 _OF_LOOKUP = (*range(1, 19), 22)
+# And those of the deposit profile: all that it gives.
+_OF_DEPOSIT = range(1, 29)
 
 
 def _word(answer: int, placed: Sequence[int] = _OF_PACK) -> int:
@@ -492,6 +495,12 @@ def explain(pack: Data, bucket: Text, object: Text) -> List[Line]:
         Line(start, _REASONS[reason], place)
         for start, reason, place in _rows(3, pack, _OF_LOOKUP, _library.vof_explain, *names)
     ]
+
+
+def check_deposit(pack: Data) -> int:
+    """How many records a pack has that keeps the deposit profile. Refusals 1 to 8 of the pack, then
+    9 to 18, 21, 22 and 23 to 28 of its first record at fault, all with the place."""
+    return _word(_library.vof_check_deposit(*_lent(pack)), _OF_DEPOSIT)
 
 
 # ---- packs in parts

@@ -325,6 +325,12 @@ def check(given: argparse.Namespace, output: Output, walk: Walk) -> None:
     output.rows("{pack}: accepted, records {records}", [row], titled=False)
 
 
+def check_deposit(given: argparse.Namespace, output: Output, pack: Data) -> None:
+    """say whether packs keep the deposit profile"""
+    row = {"pack": given.pack, "records": patiently(vof.check_deposit, pack)}
+    output.rows("{pack}: may be deposited, records {records}", [row], titled=False)
+
+
 def find(given: argparse.Namespace, output: Output, pack: Data) -> None:
     """find the block that holds a byte of a version, by the pack list at a place"""
     read = vof.record(pack, given.at)
@@ -374,6 +380,13 @@ def name(argument: str) -> Iterable[bytes]:
     return bucket, object
 
 
+class Deposit(argparse.Action):
+    """Has packs checked by the deposit profile, which wants them whole."""
+
+    def __call__(self, parser: Any, given: argparse.Namespace, *more: Any) -> None:
+        given.run, given.read = check_deposit, contents
+
+
 def parsed(arguments: Optional[Iterable[str]]) -> argparse.Namespace:
     about = "Reads LTFS-VOF packs. PACK is a file, or - for standard input."
     statuses = "Exit status: 0 told; 1 refused; 2 neither, and standard error says why."
@@ -400,7 +413,9 @@ def parsed(arguments: Optional[Iterable[str]]) -> argparse.Namespace:
     add("record", record, 1).add_argument("at", type=int, metavar="AT")
     for word, run in (("current", current), ("why", why)):
         add(word, run, 1).add_argument("name", type=name, metavar="BUCKET/OBJECT")
-    add("check", check, "+", Walk)
+    checker = add("check", check, "+", Walk)
+    profile = "check them against the deposit profile"
+    checker.add_argument("--deposit", action=Deposit, nargs=0, help=profile)
     finder = add("find", find, 1)
     finder.add_argument("at", type=int, metavar="AT")
     finder.add_argument("byte", type=int, metavar="BYTE")
@@ -419,7 +434,8 @@ def ran(given: argparse.Namespace) -> int:
             else:
                 given.run(given, output, given.read(given.pack))
         except Refusal as refusal:
-            output.refused(refusal, given.pack if given.run == check else None)
+            is_check = given.run in (check, check_deposit)
+            output.refused(refusal, given.pack if is_check else None)
             status = max(status, 1)
         except Failed as failure:
             sys.stderr.write("vof: %s\n" % shown(failure))

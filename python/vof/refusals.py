@@ -30,6 +30,12 @@ class Refused(IntEnum):
     NOT_ADMITTED = 20
     RANGE_IMPOSSIBLE = 21
     KEY_REPEATED = 22
+    NOT_SHORT = 23
+    KEY_NOT_GIVEN = 24
+    HEADER_ORDER = 25
+    BLOCK_FORM = 26
+    SPARE_NOT_ZERO = 27
+    BUCKET_NAME = 28
 
 
 # Of each number the reason, and what to do.
@@ -121,5 +127,29 @@ TEXTS = {
     22: (
         "a key that is read is given twice",
         "Ask the writing site which value it meant, and to write it once. Do not guess: some readers take the first, others the last. Other keys may stand twice.",
+    ),
+    23: (
+        "an item is not in its short form",
+        "Write the record anew in short forms: the library's writer does, and takes a version's primary part from vof_version_part. vof item shows which form an item has.",
+    ),
+    24: (
+        "a map has a key that document 001 does not give",
+        "Write the record anew without that key, or put it into a map that the profile does not look at: s or m of a version.",
+    ),
+    25: (
+        "the header's keys are not the writer's",
+        "Write the record anew with the library's writer, from its primary part and its data.",
+    ),
+    26: (
+        "a block's map is not the writer's",
+        "Write the block anew with the library's writer, from its identifier and its data.",
+    ),
+    27: (
+        "byte 28 or 29 is not 0",
+        "Set both bytes to 0 and write the header's hash anew, or write the record with the library's writer.",
+    ),
+    28: (
+        "the bucket's name may not be deposited",
+        "A record cannot be given another name. Deposit the object again under a bucket with such a name, and leave this record out.",
     ),
 }

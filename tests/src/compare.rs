@@ -2,6 +2,7 @@
 
 mod pipe;
 
+use crate::plain::deposit;
 use crate::plain::form;
 use crate::plain::lookup::{current, explain, Version};
 use crate::plain::pack::read_pack;
@@ -76,6 +77,7 @@ pub enum Function {
     Current,
     CurrentWith,
     Explain,
+    CheckDeposit,
     PipeStart,
     PipeTake,
     PipeEnd,
@@ -91,7 +93,7 @@ pub enum Function {
 }
 
 /// The numbers that each function can answer, 0 where it does not refuse.
-const NUMBERS: [(Function, &[usize]); 19] = [
+const NUMBERS: [(Function, &[usize]); 20] = [
     (Function::Scan, &[0, 1, 2, 3, 4, 5, 6, 7, 8, 19]),
     (Function::FindHash, &[0, 20]),
     (Function::Value, &[0, 9, 10, 11, 12, 19, 22]),
@@ -119,6 +121,13 @@ const NUMBERS: [(Function, &[usize]); 19] = [
             0, 1, 2, 3, 4, 5, 6, 7, 8, 9, 10, 11, 12, 14, 15, 16, 17, 18, 19, 20, 22,
         ],
     ),
+    (
+        Function::CheckDeposit,
+        &[
+            0, 1, 2, 3, 4, 5, 6, 7, 8, 9, 10, 11, 12, 13, 14, 15, 16, 17, 18, 21, 22, 23, 24, 25,
+            26, 27, 28,
+        ],
+    ),
     (Function::PipeStart, &[0, 19]),
     (Function::PipeTake, &[0, 1, 2, 3, 4, 5, 6, 7, 8, 19, 20]),
     (Function::PipeEnd, &[0, 1, 2, 3, 4, 5, 6, 7, 8, 20]),
@@ -142,7 +151,7 @@ pub struct Compare {
     pub inputs: u64,
     pub calls: u64,
     /// How often each function gave each number.
-    met: [[u64; 23]; NUMBERS.len()],
+    met: [[u64; 29]; NUMBERS.len()],
 }
 
 impl Compare {
@@ -159,14 +168,11 @@ impl Compare {
     /// A refusal that no input brings would not be compared.
     pub fn all_met(&self) {
         for (function, numbers) in NUMBERS {
-            for &number in numbers {
-                if self.met[function as usize][number] == 0 {
-                    self.fail(
-                        &format!("{function:?}"),
-                        &[],
-                        format!("never gave {number}"),
-                    );
-                }
+            let mut missing = numbers.to_vec();
+            missing.retain(|&number| self.met[function as usize][number] == 0);
+            if !missing.is_empty() {
+                let told = format!("never gave {missing:?}");
+                self.fail(&format!("{function:?}"), &[], told);
             }
         }
     }
@@ -381,6 +387,23 @@ impl Compare {
         let word = |line: &vof::Line| [line.start, line.reason as u64, line.place];
         let same = safe.map(|lines| lines.iter().map(word).collect::<Vec<_>>()) == plain;
         self.hold("the safe explanation", &inputs, same);
+    }
+
+    pub fn deposit(&mut self, pack: &[u8]) {
+        self.inputs += 1;
+        let plain = deposit::check(pack);
+        let wanted = match &plain {
+            Err(refusal) => Wanted::refused(*refusal),
+            Ok(records) => Wanted {
+                answer: 256 * *records as u64,
+                words: Vec::new(),
+                bytes: Vec::new(),
+            },
+        };
+        let call = |_: &mut [u64], _: &mut [u8]| raw::check_deposit(pack);
+        self.lent(Function::CheckDeposit, &[pack], &wanted, &[(0, 0)], call);
+        let same = vof::check_deposit(pack) == plain;
+        self.hold("the safe deposit check", &[pack], same);
     }
 
     /// All that is told of an object.

@@ -53,7 +53,7 @@ pub record ReadsBack (limit : ℕ) (items : List Item) (buf : List ℕ) : Type 0
 
 -- ---- each item by itself
 
-means : (item : Item) → admitted item ≡ true → (h : RecordHeld) × (heldOf item ≡ result h)
+pub means : (item : Item) → admitted item ≡ true → (h : RecordHeld) × (heldOf item ≡ result h)
 means (block i d) a = (_, refl)
 means (version p) a = by (primary.version p) a
   where
@@ -83,7 +83,7 @@ module _ (limit : ℕ) (small : limit < 2 ^ 32) where
   pub fits : (item : Item) → AreBytes item → admitted item ≡ true → length (valueOf item) ≤ limit → Fits (recordFor item)
   fits item b a l = record { spare = omega arith; tag = tag-fits item; value = omega arith; bytes = item-bytes limit small item b a l }
 
-  all-fit : (items : List Item) → AllBytesOf items → AllAdmitted items → length (layouts (recordsOf items)) ≤ limit → AllFit (recordsOf items)
+  pub all-fit : (items : List Item) → AllBytesOf items → AllAdmitted items → length (layouts (recordsOf items)) ≤ limit → AllFit (recordsOf items)
   unfolding layouts
   all-fit [] b a l = tt
   all-fit (item ∷ items) b a l =

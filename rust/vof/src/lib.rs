@@ -506,6 +506,15 @@ pub fn explain(pack: &[u8], bucket: &[u8], object: &[u8]) -> Result<Vec<Line>, R
     Ok(told.into_iter().map(line).collect())
 }
 
+/// How many records a pack has that keeps the deposit profile, a narrower rule for packs that are
+/// deposited.
+///
+/// Refused with 1 to 8 for the pack; then, of the first record at fault, with 9 to 18, 21, 22 or 23 to 28;
+/// each with a place.
+pub fn check_deposit(pack: &[u8]) -> Result<usize, Refusal> {
+    word(raw::check_deposit(pack), |_| true).map(|count| count as usize)
+}
+
 /// The entries of a pack list, by its primary part.
 ///
 /// Refused with 16 to 18, 21 or 22.

@@ -56,6 +56,7 @@ extern "C" {
         told: *mut u64,
         told_length: usize,
     ) -> u64;
+    fn vof_check_deposit(pack: *const u8, length: usize) -> u64;
     fn vof_pipe_start(state: *mut u64, state_length: usize) -> u64;
     fn vof_pipe_take(
         state: *mut u64,
@@ -240,6 +241,11 @@ pub fn explain(pack: &[u8], bucket: &[u8], object: &[u8], told: &mut [u64]) -> u
             told.len(),
         )
     }
+}
+
+/// Checks a pack against the deposit profile. The word is how many records there are.
+pub fn check_deposit(pack: &[u8]) -> u64 {
+    unsafe { vof_check_deposit(pack.as_ptr(), pack.len()) }
 }
 
 /// How many numbers the state of a pipe has; include/vof.h says which states are well formed.

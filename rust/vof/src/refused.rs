@@ -46,9 +46,21 @@ pub const NOT_ADMITTED: u8 = 20;
 pub const RANGE_IMPOSSIBLE: u8 = 21;
 /// Refused: a key that is read is given twice.
 pub const KEY_REPEATED: u8 = 22;
+/// Refused: an item is not in its short form.
+pub const NOT_SHORT: u8 = 23;
+/// Refused: a map has a key that document 001 does not give.
+pub const KEY_NOT_GIVEN: u8 = 24;
+/// Refused: the header's keys are not the writer's.
+pub const HEADER_ORDER: u8 = 25;
+/// Refused: a block's map is not the writer's.
+pub const BLOCK_FORM: u8 = 26;
+/// Refused: byte 28 or 29 is not 0.
+pub const SPARE_NOT_ZERO: u8 = 27;
+/// Refused: the bucket's name may not be deposited.
+pub const BUCKET_NAME: u8 = 28;
 
 /// Of each number, from 1 on, the reason, and what to do.
-pub(crate) const TEXTS: [(&str, &str); 22] = [
+pub(crate) const TEXTS: [(&str, &str); 28] = [
     (
         "the pack is too long",
         "The pack may be good, and only too long for what was asked: vof check, vof list and stream-pack take more, and so does a pipe. To look something up in it, and where these refuse it, ask the writing site for smaller packs.",
@@ -136,5 +148,29 @@ pub(crate) const TEXTS: [(&str, &str); 22] = [
     (
         "a key that is read is given twice",
         "Ask the writing site which value it meant, and to write it once. Do not guess: some readers take the first, others the last. Other keys may stand twice.",
+    ),
+    (
+        "an item is not in its short form",
+        "Write the record anew in short forms: the library's writer does, and takes a version's primary part from vof_version_part. vof item shows which form an item has.",
+    ),
+    (
+        "a map has a key that document 001 does not give",
+        "Write the record anew without that key, or put it into a map that the profile does not look at: s or m of a version.",
+    ),
+    (
+        "the header's keys are not the writer's",
+        "Write the record anew with the library's writer, from its primary part and its data.",
+    ),
+    (
+        "a block's map is not the writer's",
+        "Write the block anew with the library's writer, from its identifier and its data.",
+    ),
+    (
+        "byte 28 or 29 is not 0",
+        "Set both bytes to 0 and write the header's hash anew, or write the record with the library's writer.",
+    ),
+    (
+        "the bucket's name may not be deposited",
+        "A record cannot be given another name. Deposit the object again under a bucket with such a name, and leave this record out.",
     ),
 ];

@@ -1,7 +1,8 @@
-//! Document 01, with requests 1, 2, 4, 6 and 8 of document 02, as plainly as can be, written from the papers and
+//! Document 01, with requests 1, 2, 4, 6, 8 and 9 of document 02, as plainly as can be, written from the papers and
 //! not from the proved definitions: their rules, document 001's letters (docs/FORMAT.md), the published
 //! specifications of XXH64 and MessagePack.
 
+pub mod deposit;
 pub mod form;
 pub mod identifier;
 pub mod lookup;

@@ -13,10 +13,11 @@ fn starts(records: &[Vec<u8>]) -> Vec<usize> {
     starts
 }
 
-/// The pack is read as a whole, and at the start of the record that was damaged.
+/// The pack is read as a whole, and from the start of the record that was damaged.
 fn read(compare: &mut Compare, pack: &[u8], at: usize) {
     compare.scan(pack);
     compare.record(pack, at);
+    compare.deposit(&pack[at..]);
     compare.object(pack, b"herd", b"list");
 }
 
@@ -56,6 +57,7 @@ pub fn random_packs(compare: &mut Compare, random: &mut Random) {
         }
         for record in &list {
             compare.value(&record[32..]);
+            compare.deposit(record);
         }
     }
 }

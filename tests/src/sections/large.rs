@@ -80,6 +80,7 @@ fn many_words(compare: &mut Compare) {
 
 fn too_long(compare: &mut Compare, pack: &[u8]) {
     compare.scan(pack);
+    compare.deposit(pack);
     let length = pack.len();
     for at in [
         0,

@@ -1,6 +1,7 @@
 //! What is compared, a section at a time.
 
 mod damage;
+mod deposits;
 mod document;
 mod forms;
 mod large;
@@ -15,7 +16,7 @@ use crate::random::Random;
 
 type Section = (&'static str, fn(&mut Compare, &mut Random));
 
-pub const ALL: [Section; 34] = [
+pub const ALL: [Section; 38] = [
     ("the documents' own cases", document::cases),
     ("the stored lookups", document::lookups),
     ("hashes", document::hashes),
@@ -57,6 +58,10 @@ pub const ALL: [Section; 34] = [
     ("primary parts of versions", writing::version_parts),
     ("write then read", properties::read_back),
     ("deletions and orders", properties::deletions_and_orders),
+    ("packs near the deposit profile", deposits::profiles),
+    ("any packs by the deposit profile", deposits::any_packs),
+    ("what is written, by the deposit profile", deposits::written),
+    ("bytes 28 and 29, by the deposit profile", deposits::spare),
     ("longer than the limit", large::longer_than_the_limit),
     ("cut at every byte", properties::fronts),
 ];

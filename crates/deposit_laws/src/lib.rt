@@ -1,0 +1,1 @@
+// The deposit profile, as theorems: what our writer writes keeps it, and a deposited block's bytes follow from its identifier and its data.

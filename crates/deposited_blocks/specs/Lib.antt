@@ -1,0 +1,4 @@
+pub mod Same
+pub mod Found
+pub mod Answers
+pub mod TellsApart
