@@ -1,5 +1,7 @@
 // The block that holds a byte of a version, by its pack list: the first entry that holds the byte, and in it
 // the block, by the lengths of its blocks. They are read where they stand; nothing is copied.
+#![tactic(auto)]
+
 ghost use Rattle.std.specs.Prelude.{cond, ◌≡◌, ◌+◌, ◌-◌, leb, drop};
 ghost use Rattle.std.proofs.Math.Option.{none, some};
 ghost use Rattle.endian.specs.Places.{number_of};

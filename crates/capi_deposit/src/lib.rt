@@ -1,4 +1,6 @@
 // For C, Rust and Python: a pack checked against the deposit profile.
+#![tactic(auto)]
+
 ghost use Rattle.std.specs.Prelude.{◌≡◌};
 ghost use Rattle.refusals.specs.Limit.{pack_limit};
 ghost use Rattle.deposit.specs.Packs.{deposit};

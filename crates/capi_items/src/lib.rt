@@ -1,4 +1,6 @@
 // For C, Rust and Python: the MessagePack item at the front of bytes, with its form.
+#![tactic(auto)]
+
 ghost use Rattle.std.specs.Prelude.{◌≡◌, length};
 ghost use Rattle.msgpack_forms.specs.Items.{item_at};
 ghost use Rattle.capi_items.specs.Items.{kind_number, item_answer, item_told};

@@ -1,4 +1,6 @@
 // For C, Rust and Python: the current version of an object, and why it is current.
+#![tactic(auto)]
+
 ghost use Rattle.std.specs.Prelude.{◌≡◌, cond, not, eqb, length};
 ghost use Rattle.slices.specs.Overwriting.{overwritten};
 ghost use Rattle.refusals.specs.Limit.{pack_limit};

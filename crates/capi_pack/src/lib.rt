@@ -1,4 +1,6 @@
 // For C, Rust and Python: the library's version, a hash, a whole pack scanned and searched.
+#![tactic(auto)]
+
 mod scan;
 
 ghost use Rattle.std.specs.Prelude.{◌≡◌};

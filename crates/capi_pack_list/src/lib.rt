@@ -1,4 +1,6 @@
 // For C, Rust and Python: the entries of a pack list, six words for each, and the block that holds a byte of a version.
+#![tactic(auto)]
+
 ghost use Rattle.std.specs.Prelude.{◌≡◌, length, ◌*◌, ◌≤◌};
 ghost use Rattle.slices.specs.Overwriting.{overwritten};
 ghost use Rattle.pack_list.specs.Lists.{pack_list};

@@ -1,4 +1,6 @@
 // For C, Rust and Python: a pack that comes in parts. The state between calls stands in lent words.
+#![tactic(auto)]
+
 mod state;
 
 ghost use Rattle.std.specs.Prelude.{◌≡◌, cond, ◌≤◌, leb, length};

@@ -1,6 +1,8 @@
 // For C, Rust and Python: records written, one a call, and a version's primary part alone. Every answer
 // holds the new count, or the part's length. A text that is no identifier reads as zeros, which the writer
 // refuses.
+#![tactic(auto)]
+
 ghost use Rattle.std.specs.Prelude.{◌≡◌, length};
 ghost use Rattle.std.proofs.Math.Option.{some};
 ghost use Rattle.refusals.specs.Limit.{pack_limit};

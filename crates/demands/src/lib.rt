@@ -1,6 +1,8 @@
 // What the customer signs, of the code that runs: the functions here only call the writer, the reader and
 // the lookup, and ensure demand 3 and demand 2's read-back. The theorems are those of crates/demands_laws
 // and crates/writer_laws.
+#![tactic(auto)]
+
 ghost use Rattle.std.specs.Prelude.{◌≡◌};
 ghost use Rattle.std.proofs.Math.Option.{some};
 ghost use Rattle.held_identifier.specs.Held.{named};

@@ -1,5 +1,7 @@
 // A pack checked against the deposit profile (request 9), a narrower rule for packs that are deposited.
 // After the check of the pack, which hashes, each record is read, and then tested by the six rules.
+#![tactic(auto)]
+
 ghost use Rattle.std.specs.Prelude.{◌≡◌, ◌+◌, ◌≤◌, eqb, length};
 ghost use Rattle.slices.specs.Places.{part_at};
 ghost use Rattle.refusals.specs.Sheet.{lowest};

@@ -1,5 +1,7 @@
 // What the deposit profile (request 9) asks of the keys of a map in their order, of a block's two maps,
 // and of a bucket's name.
+#![tactic(auto)]
+
 ghost use Rattle.std.specs.Prelude.{◌≡◌, false, length};
 ghost use Rattle.value.specs.Header.{header_keys};
 ghost use Rattle.deposit_rules.specs.Keys.{keys_from, keys_of, are_among, are_these};

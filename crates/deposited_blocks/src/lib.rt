@@ -1,6 +1,8 @@
 // Two blocks of deposited packs compared (request 9). Where they have the same identifier and the same
 // data, all their bytes are the same, header included: the theorem is `equal-bytes` of
 // crates/deposit_laws.
+#![tactic(auto)]
+
 ghost use Rattle.std.specs.Prelude.{◌≡◌, true};
 ghost use Rattle.slices.specs.Bytes.{same_bytes};
 ghost use Rattle.slices.specs.Places.{part_at};

@@ -1,4 +1,6 @@
 // Numbers as bytes, big- and little-endian, of up to 8 bytes at a place of a slice.
+#![tactic(auto)]
+
 ghost use Rattle.std.specs.Prelude.{◌≡◌, ◌+◌, ◌≤◌, ◌<◌, length, get_or, take, drop};
 ghost use Rattle.slices.specs.Overwriting.{overwritten};
 ghost use Rattle.endian.specs.Numbers.{little, big, big_bytes};

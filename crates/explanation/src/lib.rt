@@ -1,6 +1,8 @@
 // Why the current version of an object is current: a line for each version record of a name, with its
 // start, a reason and a place, as three words. A plain search for each record finds the earliest deletion
 // of it, and the earliest version record with its identifier.
+#![tactic(auto)]
+
 ghost use Rattle.std.specs.Prelude.{◌≡◌, ◌+◌, ◌*◌, ◌/◌, ◌≤◌, [], length};
 ghost use Rattle.slices.specs.Overwriting.{overwritten};
 ghost use Rattle.refusals.specs.Limit.{pack_limit};

@@ -1,5 +1,7 @@
 // Identifiers: ULID, bucket and object, as texts in lent slices, as one composite text, and held by
 // value. The work is done on slices; the struct is for holding an identifier past its text.
+#![tactic(auto)]
+
 ghost use Rattle.std.specs.Prelude.{◌≡◌, ◌&&◌, ◌+◌, leb, length};
 ghost use Rattle.identifier.specs.Texts.{before, less};
 ghost use Rattle.identifier.specs.Ulid.{is_character, is_ulid};

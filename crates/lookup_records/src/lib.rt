@@ -1,5 +1,7 @@
 // One record of a pack as a lookup sees it: a version, a deletion of one, neither, or one that cannot be
 // read. What is told lies in the pack, and is told as places of it.
+#![tactic(auto)]
+
 ghost use Rattle.std.specs.Prelude.{◌≡◌};
 ghost use Rattle.std.proofs.Math.Option.{some};
 ghost use Rattle.refusals.specs.Limit.{pack_limit};

@@ -1,5 +1,7 @@
 // MessagePack items by the public specification: one passed over, read at the front of a slice, or
 // looked up in a map by a text key.
+#![tactic(auto)]
+
 ghost use Rattle.std.proofs.Math.Option.{some};
 ghost use Rattle.std.specs.Prelude.{◌≡◌, ◌-◌, ◌≤◌, ◌<◌, ◌^◌, eqb, length, drop, get_or};
 ghost use Rattle.msgpack.specs.Formats.{integer_kind, array_kind, format_of};

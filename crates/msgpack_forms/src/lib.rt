@@ -1,5 +1,7 @@
 // Request 8: the item at the front of a slice with its form, and whether all forms of an item are
 // short.
+#![tactic(auto)]
+
 ghost use Rattle.std.specs.Prelude.{true, ◌≡◌, ◌≤◌, ◌<◌, ◌^◌, drop, get_or};
 ghost use Rattle.msgpack.specs.Formats.{unused_kind, array_kind};
 ghost use Rattle.msgpack.specs.Items.{head_read, HeadAt, items_of, pass_items, passage_of};

@@ -1,4 +1,6 @@
 // The heads that begin MessagePack items, and unsigned integers, written in their shortest form.
+#![tactic(auto)]
+
 ghost use Rattle.std.specs.Prelude.{◌≡◌, ◌≤◌, ◌<◌, length};
 ghost use Rattle.slices.specs.Overwriting.{written_bytes};
 ghost use Rattle.msgpack_heads.specs.Heads.{form_read, form_bytes, sized_form, text_form, unsigned_form, container_form, text_head, binary_head, unsigned_integer, array_head, map_head, next_place, next_of};

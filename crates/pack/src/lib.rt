@@ -1,4 +1,6 @@
 // A whole pack: records end to end.
+#![tactic(auto)]
+
 ghost use Rattle.std.specs.Prelude.{◌≡◌, ◌≤◌, ◌++◌, length, drop};
 ghost use Rattle.refusals.specs.Limit.{pack_limit};
 ghost use Rattle.pack.specs.Reading.{reading, outcome, outcome_of};

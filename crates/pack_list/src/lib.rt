@@ -1,5 +1,7 @@
 // The primary part of a pack list: which range of a version lies in which range of which pack, and in how
 // many blocks. Entries and lengths are read where they stand; nothing is copied.
+#![tactic(auto)]
+
 ghost use Rattle.std.specs.Prelude.{true, cond, ◌&&◌, [], ◌≡◌, ◌+◌, ◌-◌, ◌≤◌, ◌<◌, ltb, length, drop};
 ghost use Rattle.std.proofs.Math.Option.{none, some};
 ghost use Rattle.msgpack.specs.Items.{passage_of, pass_over, WholeItem};

@@ -1,4 +1,6 @@
 // A pack that comes in parts (request 6): a call takes a part, and tells of a record as it completes.
+#![tactic(auto)]
+
 ghost use Rattle.std.specs.Prelude.{◌≡◌, true, cond, ◌&&◌, [], ◌++◌, ◌+◌, ◌*◌, ◌≤◌, ◌<◌, ◌^◌, min, leb, ltb, length, take as front};
 ghost use Rattle.slices.specs.Overwriting.{overwritten};
 ghost use Rattle.refusals.specs.Sheet.{lowest};

@@ -1,5 +1,7 @@
 // The primary parts of blocks, versions and version deletes. Answers tell where the texts stand in the
 // part; nothing is copied.
+#![tactic(auto)]
+
 ghost use Rattle.std.specs.Prelude.{false, ◌||◌, ◌≡◌, ◌+◌, ◌≤◌, length, drop};
 ghost use Rattle.std.proofs.Math.Option.{none, some};
 ghost use Rattle.slices.specs.Places.{part_at, Inside};

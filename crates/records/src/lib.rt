@@ -1,5 +1,7 @@
 // One record of a pack: what its tag and value tell, and the record at a place. Answers tell places of
 // the pack; nothing is copied.
+#![tactic(auto)]
+
 ghost use Rattle.std.specs.Prelude.{◌≡◌, ◌+◌, ◌^◌, ◌<◌};
 ghost use Rattle.slices.specs.Places.{part_at, shift_place};
 ghost use Rattle.refusals.specs.Sheet.{lowest};

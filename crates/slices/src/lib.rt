@@ -1,5 +1,7 @@
 // Slices: a place, the part of a slice at a place, bytes compared, and bytes and words written at a
 // place.
+#![tactic(auto)]
+
 ghost use Rattle.std.specs.Prelude.{◌≡◌, ◌+◌, ◌≤◌, leb, length, take, drop};
 ghost use Rattle.slices.specs.Bytes.{same_bytes};
 ghost use Rattle.slices.specs.Places.{part_at, address_at};

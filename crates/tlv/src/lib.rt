@@ -1,4 +1,6 @@
 // One record of a pack: a header of 32 bytes and a value.
+#![tactic(auto)]
+
 ghost use Rattle.std.specs.Prelude.{◌≡◌, ◌+◌, ◌≤◌, ◌<◌, ◌^◌, leb, length, drop};
 ghost use Rattle.refusals.specs.Sheet.{lowest};
 ghost use Rattle.tlv.specs.Layout.{field};

@@ -1,4 +1,6 @@
 // A pack that was cut off: its first n bytes, checked and scanned. Where n is above its length, these are all of it.
+#![tactic(auto)]
+
 ghost use Rattle.std.specs.Prelude.{◌≡◌, ◌≤◌, length, take};
 ghost use Rattle.refusals.specs.Limit.{pack_limit};
 ghost use Rattle.pack.specs.Reading.{whole, reading, outcome, outcome_of};

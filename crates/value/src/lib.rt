@@ -1,4 +1,6 @@
 // The value of a record: the header, which is one MessagePack map, and then the secondary part.
+#![tactic(auto)]
+
 ghost use Rattle.std.proofs.Math.Option.{none};
 ghost use Rattle.std.specs.Prelude.{◌≡◌, ◌+◌, ◌≤◌, length, take, drop};
 ghost use Rattle.refusals.specs.Limit.{pack_limit};

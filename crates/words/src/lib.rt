@@ -1,5 +1,7 @@
 // What every function for C answers with: a refusal and what goes with it in one word, and results
 // that go to lent words.
+#![tactic(auto)]
+
 ghost use Rattle.std.specs.Prelude.{cond, ◌≡◌, ◌+◌, ◌%◌, ◌^◌, ◌≤◌, leb, length};
 ghost use Rattle.slices.specs.Overwriting.{overwritten, written_bytes};
 ghost use Rattle.words.specs.Words.{answer, flag};

@@ -2,6 +2,8 @@
 // (document 01, "Writing"); and a version's primary part alone. The lengths are computed and tested before
 // the first byte is written; then comes the value, and then the header, which takes the value's hash in
 // place.
+#![tactic(auto)]
+
 ghost use Rattle.std.specs.Prelude.{◌≡◌, true, ◌+◌, ◌≤◌, ◌<◌, length, take, drop};
 ghost use Rattle.std.proofs.Math.Option.{some};
 ghost use mathlib.Core.List.{◌++◌, flatten};

@@ -1,4 +1,6 @@
 // XXH64 with seed 0, in the steps and names of the xxHash specification.
+#![tactic(auto)]
+
 ghost use Rattle.std.specs.Prelude.{◌≡◌, ◌+◌, ◌*◌, ◌%◌, ◌<◌, ◌≤◌, length, take};
 ghost use Rattle.xxh64.specs.Xxh64.{mul, rotl, lane, taken, round, merge_accumulator, converge, consume8, consume4, consume1, consume, avalanche, xxh64};
 ghost use Rattle.xxh64.specs.Parts.{fresh, pushed, finish, finished, hashing_of};
