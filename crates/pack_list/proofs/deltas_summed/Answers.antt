@@ -14,10 +14,10 @@ pub loop-k-init : goal.loop-k-init
 loop-k-init c = none_summed _ _ _ _ (omega arith)
 
 abbrev at_start_lem : After-read_integer → Start
-at_start_lem c = c
+at_start_lem c = (goal.at.After-read_integer c).Start
 
 abbrev in_loop : After-read_integer → At-loop-k
-in_loop c = c
+in_loop c = (goal.at.After-read_integer c).At-loop-k
 
 -- what was read
 read : (c : After-read_integer)
@@ -27,20 +27,20 @@ read c = c.read_integer.ensures.result_value ∙ ap read_integer c.from.ensures.
 pub returns-in-Missing : goal.returns-in-Missing
 returns-in-Missing c =
     let r = c in
-    let l = (in_loop r).loop in
+    let l = (in_loop (goal.at.returns-in-Missing c).After-read_integer).loop in
     none_is _ _ _ _ l.at l.k l.sums l.inv (omega arith) (sym (read (goal.at.returns-in-Missing r).After-read_integer) ∙ ap integer_read c.in-Missing.is)
 
 read-2 : (c : Joined-read_integer)
-    → integer_read c.read_integer.result ≡ read_integer (drop (in_loop c).loop.at (at_start_lem c).args.part.now)
+    → integer_read c.read_integer.result ≡ read_integer (drop (in_loop (goal.at.Joined-read_integer c).After-read_integer).loop.at (at_start_lem (goal.at.Joined-read_integer c).After-read_integer).args.part.now)
 read-2 c = c.read_integer.ensures.result_value ∙ ap read_integer c.from.ensures.result_value
 
 -- the delta, and the sums with it
 added : (c : Joined-read_integer)
-    → DeltaAdded (at_start_lem c).args.part.now (at_start_lem c).args.deltas (at_start_lem c).args.blocks
-    (at_start_lem c).args.source (in_loop c).loop.at (in_loop c).loop.k (in_loop c).loop.sums c.match-read_integer.sums
+    → DeltaAdded (at_start_lem (goal.at.Joined-read_integer c).After-read_integer).args.part.now (at_start_lem (goal.at.Joined-read_integer c).After-read_integer).args.deltas (at_start_lem (goal.at.Joined-read_integer c).After-read_integer).args.blocks
+    (at_start_lem (goal.at.Joined-read_integer c).After-read_integer).args.source (in_loop (goal.at.Joined-read_integer c).After-read_integer).loop.at (in_loop (goal.at.Joined-read_integer c).After-read_integer).loop.k (in_loop (goal.at.Joined-read_integer c).After-read_integer).loop.sums c.match-read_integer.sums
 added c =
     let r = c in
-    let old = (in_loop r).loop.sums in
+    let old = (in_loop (goal.at.Joined-read_integer c).After-read_integer).loop.sums in
     ⊎_elim
     (λ w.
     record {
