@@ -39,5 +39,5 @@ entry_by-requires c =
     let taken = bounded depth_allowed (map_at (goal.at.entry_by-requires c).Start) a.requires.size a.requires.is in
     let before_end : a.args.at ≤ length a.args.part.now =
     omega (arith, taken.some_byte, taken.within, length-drop a.args.at a.args.part.now) in
-    let sized = sym (c.type_size.ensures ∙ ap size_of (pairs_read (goal.at.entry_by-requires p).After-read_pairs-pairs).passed) in
+    let sized = sym (c.size_of-size.ensures ∙ ap size_of (pairs_read (goal.at.entry_by-requires p).After-read_pairs-pairs).passed) in
     (before_end, entry_places _ _ (pairs_read (goal.at.entry_by-requires p).After-read_pairs-pairs) a.requires _ sized (not-false _ e.if-not-pairs.false))

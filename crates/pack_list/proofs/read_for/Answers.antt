@@ -3,7 +3,7 @@ use Prim.Native.Nat.{ℕ}
 use mathlib.Core.Bool.{true}
 use mathlib.Core.List.{List, []}
 use mathlib.Core.Option.{none, some}
-use mathlib.Core.Path.{◌≡◌, sym, ap, ◌∙◌}
+use mathlib.Core.Path.{◌≡◌, refl, sym, ap, ◌∙◌}
 use native.Mathlib.Omega.{arith}
 use lib.ListN.{get_or, drop}
 use Rattle.msgpack.specs.Items.{WholeItem}
@@ -62,10 +62,10 @@ abbrev in_whole : After-places-1 → Else-not-fills
 in_whole c = (goal.at.After-places-1 c).Else-not-fills
 
 abbrev pairs_at : After-places-1 → After-read_block_beside-both
-pairs_at c = (in_whole c).before.before.before
+pairs_at c = (goal.at.After-places-1 c).After-read_block_beside-both
 
 abbrev place_at : After-places-1 → ℕ
-place_at c = get_or (pairs_at c).read-block-beside.result.pairs.places 1 0
+place_at c = get_or (pairs_at c).read_block_beside-both.result.pairs.places 1 0
 
 place : (c : After-places-1) → last_value entries_key (bytes (pairs_at c)) ≡ place_told (place_at c)
 place c = entries_place _ _ (pairs_read (pairs_at c)) (whole_item (in_whole c)) (not-false _ c.if-not-pairs.false)
@@ -111,14 +111,13 @@ returns c =
     let v = o in
     let k = v in
     let p = places_at (goal.at.returns c).In-Numbers in
-    let b = (pairs_at p).read-block-beside in
+    let b = (pairs_at p).read_block_beside-both in
     let n = k.numbers_under in
     let e = k.in-Numbers.is in
-    let i = o.in-Entries.is in
-    let tells = all_surveyed _ _ _ _ (sym (ap (survey_of (part_at (goal.at.returns c).In-Numbers)) i) ∙ v.survey_entries.ensures.result_value) in
+    let tells = all_surveyed _ _ _ _ o.in-Entries.ensures.result_value in
     let repeated = repeats_told _ (place_at p) (place p) (some _) (items_are (goal.at.returns k).In-Numbers) in
     let listed = items_told _ (place_at p) (place p) (some _) (items_are (goal.at.returns k).In-Numbers) in
     let flag = list_repeats_lem _ _ (pairs_read (pairs_at p)) (whole_item (in_whole p)) in
     let placed = numbers_placed entries_key (part_at (goal.at.returns c).In-Numbers) 0 (place_at p) (place p) n.result n.ensures.place _ e in
-    list_for _ _ _ b.ensures.0 b.ensures.1.0 _ placed (n.ensures.inside.first _ e) (n.ensures.inside.whole _ e) (entries_are (goal.at.returns k).In-Numbers) listed _ _ tells
-    (v.survey_entries.ensures.inside.holder _ _ i) _ (repeated ∙ rw (flag, tells.repeated)) _ c.list_by.ensures
+    list_for _ _ _ b.ensures.block_value b.ensures.inside _ placed (n.ensures.inside.first _ e) (n.ensures.inside.whole _ e) (entries_are (goal.at.returns k).In-Numbers) listed _ _ tells
+    (o.in-Entries.ensures.inside.holder _ _ refl) _ (repeated ∙ rw (flag, tells.repeated)) _ c.list_by.ensures
