@@ -14,7 +14,8 @@ use Rattle.tlv.specs.Stands.{step_stands}
 use Rattle.tlv.specs.declared.RecordHeader.{RecordHeader}
 use Rattle.pack.specs.declared.Entry.{Entry}
 use Rattle.pack.specs.Reading.{Reading, whole, refused, records, reading, entry_at, records_end, records_fault, records_found}
-use Rattle.pack.specs.Acceptance.{Fills, after, accepted_within, accepted_reading, accepted_fills}
+use Rattle.pack.specs.Acceptance.{Fills, after}
+use Rattle.pack.proofs.Acceptance.{accepted_within, accepted_reading, accepted_fills}
 use Rattle.truncation.specs.Steps.{cut_number, record_left, record_cut}
 
 -- ---- where a cut falls, in a pack with these entries
