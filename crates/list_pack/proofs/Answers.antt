@@ -13,7 +13,7 @@ use Rattle.refusals.specs.Limit.{pack_limit}
 use Rattle.pack.specs.declared.Entry.{Entry}
 use Rattle.pack.specs.Reading.{Reading, Ending, whole, refused, Outcome, counted, alone, reading}
 use Rattle.pack.specs.Scan.{no_entry, scanned, list_after}
-use Rattle.pack.specs.Acceptance.{accepted_count}
+use Rattle.pack.proofs.Acceptance.{accepted_count}
 use Rattle.list_pack.specs.Listing.{no_entries}
 use Rattle.console.specs.Put.{Put, PutWithRoom, put_then}
 use Rattle.console.specs.Text.{refusal_line, refusal_length}
