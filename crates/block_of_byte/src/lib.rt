@@ -20,20 +20,20 @@ use msgpack::Integer;
 use pack_list::{Entry, Fault, Held, Holder, ListRead, Numbers, Range};
 
 // A block by its number in its entry, and its record's range of the pack.
-#[derive(Drop)]
+#[derive(Clone, Copy)]
 pub struct Block {
     pub number: usize,
     pub stored: Range,
 }
 
-#[derive(Drop)]
+#[derive(Clone, Copy)]
 enum BlockFound {
     Block(Block),
     // A block would have a length below 0.
     None,
 }
 
-#[derive(Drop)]
+#[derive(Clone, Copy)]
 enum Length {
     Of(u64),
     Below,
@@ -163,7 +163,7 @@ fn block_in(part: &[u8], e: Entry, blocks: usize, stride: u64, offset: u64) -> B
     noted(found, true, block)
 }
 
-#[derive(Drop)]
+#[derive(Clone, Copy)]
 pub enum Found {
     Nowhere,
     // The entry with this number, whose lengths place the byte in no block.

@@ -90,7 +90,7 @@ pub(crate) fn read_state(words: &[u64]) -> State
 
 // What a phase is in words: which, where the record starts, or a refusal's place, and a refusal's
 // number.
-#[derive(Drop)]
+#[derive(Clone, Copy)]
 struct PhaseWords {
     phase: u64,
     start: u64,

@@ -16,7 +16,7 @@ use slices::Place;
 // ---- the words
 
 // Tag, delete flag, and start and length of a delete identifier.
-#[derive(Drop)]
+#[derive(Clone, Copy)]
 struct KindWords {
     tag: u64,
     deleted: u64,

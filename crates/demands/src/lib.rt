@@ -17,7 +17,7 @@ use writer::Written;
 
 // ---- a deletion, and a lookup after it
 
-#[derive(Drop)]
+#[derive(Clone, Copy)]
 pub enum Deletion {
     // The count returned, and what is found in the front as long as it.
     LookedUp(usize, Found),
@@ -105,7 +105,7 @@ pub fn delete_version_then_look_up(
 
 // ---- a lookup in two packs
 
-#[derive(Drop)]
+#[derive(Clone, Copy)]
 pub struct Both {
     pub first: Found,
     pub second: Found,
@@ -123,7 +123,7 @@ pub fn look_up_in_both(first: &[u8], second: &[u8], bucket: &[u8], object: &[u8]
 
 // ---- a record written, and read at its place: one function for each way of writing
 
-#[derive(Drop)]
+#[derive(Clone, Copy)]
 pub enum ReadBack {
     // The count returned, and what is read where the pack so far ended, in the front as long as it.
     Read(usize, AtPlace),

@@ -17,14 +17,14 @@ use slices::Place;
 use tlv::RecordHeader;
 
 // Whether a record keeps all rules, or the refusal.
-#[derive(Drop)]
+#[derive(Clone, Copy)]
 enum Kept {
     All,
     Refused(u8),
 }
 
 // How many records a pack has, or the refusal with its place.
-#[derive(Drop)]
+#[derive(Clone, Copy)]
 pub enum Checked {
     Records(usize),
     Refused(u8, usize),

@@ -19,7 +19,7 @@ use records::{AtPlace, Record};
 use slices::Place;
 
 // The block that was asked for, or none.
-#[derive(Drop)]
+#[derive(Clone, Copy)]
 enum Held {
     Block(Record),
     Other,

@@ -8,7 +8,7 @@ ghost use Rattle.endian.specs.Places.{holds, number_at, written_at, number_of};
 
 // What a read finds: the number, or that no number of that width stands there, since the slice
 // ends before it or the width is above 8.
-#[derive(Drop)]
+#[derive(Clone, Copy)]
 pub enum Number {
     Read(u64),
     Missing,

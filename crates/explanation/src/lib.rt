@@ -33,7 +33,7 @@ pub const REMOVED: u64 = 4;
 
 // ---- the earliest record of its kind
 
-#[derive(Drop)]
+#[derive(Clone, Copy)]
 enum Start {
     None,
     At(usize),
@@ -89,7 +89,7 @@ fn first_version(pack: &[u8], ulid: &[u8], bucket: &[u8], object: &[u8]) -> Star
 
 // ---- the line of one record
 
-#[derive(Drop)]
+#[derive(Clone, Copy)]
 struct Row {
     start: usize,
     reason: u64,
@@ -165,7 +165,7 @@ fn row_of(
     }
 }
 
-#[derive(Drop)]
+#[derive(Clone, Copy)]
 enum Told {
     Nothing,
     Line(Row),
@@ -253,7 +253,7 @@ fn fill(pack: &[u8], bucket: &[u8], object: &[u8], found: Found, told: &mut [u64
 
 // ---- the explanation of a pack
 
-#[derive(Drop)]
+#[derive(Clone, Copy)]
 pub enum Explained {
     // How many lines there are, and where the ULID of the current version stands; where none is
     // current, an empty place.

@@ -12,7 +12,7 @@ ghost use Rattle.held_identifier.specs.Writing.{outcome_of, outcome, left};
 
 // The bytes past the two lengths play no part. A length above its array's is out of range: such a
 // struct names nothing.
-#[derive(Drop)]
+#[derive(Clone, Copy)]
 pub struct Identifier {
     pub ulid: [u8; 26],
     pub bucket: [u8; 63],
@@ -22,7 +22,7 @@ pub struct Identifier {
 }
 
 // What a reading finds: a valid identifier, or zeros. (An enum holds no arrays.)
-#[derive(Drop)]
+#[derive(Clone, Copy)]
 pub struct Reading {
     pub valid: bool,
     pub id: Identifier,
@@ -30,7 +30,7 @@ pub struct Reading {
 
 // How many bytes were written; or that what was handed in is no identifier; or that the buffer has
 // no room for it at that place.
-#[derive(Drop)]
+#[derive(Clone, Copy)]
 pub enum Written {
     Bytes(usize),
     Inadmissible,

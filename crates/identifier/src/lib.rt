@@ -9,7 +9,7 @@ ghost use Rattle.identifier.specs.Identity.{slash, is_bucket, is_object, identit
 ghost use Rattle.identifier.specs.Composite.{slash_in, slash_of};
 
 // Where the slash between bucket and object stands, or that the text is no composite text.
-#[derive(Drop)]
+#[derive(Clone, Copy)]
 pub enum Split {
     Slash(usize),
     Malformed,

@@ -18,7 +18,7 @@ use records::{Kind, Reading, Record};
 use slices::Place;
 
 // What a record is to a lookup.
-#[derive(Drop)]
+#[derive(Clone, Copy)]
 pub enum Role {
     // Its primary part, its identifier, and whether it is a delete marker.
     Version(Place, Texts, bool),
@@ -29,7 +29,7 @@ pub enum Role {
 }
 
 // The role of a record, where its value stands, and the place after it.
-#[derive(Drop)]
+#[derive(Clone, Copy)]
 pub struct Visited {
     pub role: Role,
     pub value: Place,

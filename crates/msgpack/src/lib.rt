@@ -39,7 +39,7 @@ pub const ALLOWANCE: usize = 16;
 // What a first byte says: the kind of item; the width of the number that follows; and an amount.
 // After that number stand as many bytes (of an array items, of a map pairs) as it and the amount
 // together say.
-#[derive(Drop)]
+#[derive(Clone, Copy)]
 struct Format(usize, usize, usize);
 
 // What a first byte from C0 to DF says.
@@ -82,7 +82,7 @@ fn sized_format(b: u8) -> Format
 // The first byte of an item, and the number that may follow it: the item's kind, the head's own
 // length, and how many bytes (of an array items, of a map pairs) follow the head. The kind is UNUSED
 // where no item can begin so.
-#[derive(Drop)]
+#[derive(Clone, Copy)]
 pub struct Head {
     pub kind: usize,
     pub size: usize,
@@ -162,7 +162,7 @@ fn items_of(kind: usize, count: usize) -> usize
 }
 
 // What passing over an item finds.
-#[derive(Drop)]
+#[derive(Clone, Copy)]
 pub enum Passed {
     // A whole item, of so many bytes.
     Whole(usize),
@@ -325,7 +325,7 @@ fn is_whole(kind: usize, h: Head, len: usize) -> bool
 
 // The content of a text, or of bytes: where it starts, how long it is, and whether its head is the short
 // one; or that none is there whole.
-#[derive(Drop)]
+#[derive(Clone, Copy)]
 pub enum Content {
     Part {
         start: usize,
@@ -369,7 +369,7 @@ pub fn read_binary(s: &[u8]) -> Content
     content_at(BINARY, s)
 }
 
-#[derive(Drop)]
+#[derive(Clone, Copy)]
 pub enum Boolean {
     Read(bool),
     Missing,
@@ -389,7 +389,7 @@ pub fn read_boolean(s: &[u8]) -> Boolean
 
 // An integer from -2^63 to 2^64 - 1, by its magnitude, and whether its form is the short one; or that
 // none is there whole.
-#[derive(Drop)]
+#[derive(Clone, Copy)]
 pub enum Integer {
     NonNegative(u64, bool),
     Negative(u64, bool),
@@ -475,7 +475,7 @@ pub fn read_integer(s: &[u8]) -> Integer
 }
 
 // The head of an array or map: how many items, or pairs, its own length, and whether it is the short one.
-#[derive(Drop)]
+#[derive(Clone, Copy)]
 pub enum Items {
     Counted {
         count: usize,
@@ -548,7 +548,7 @@ fn code_at(s: &[u8], at: usize, h: Head) -> u64
 }
 
 // A pair of an outermost map, passed over.
-#[derive(Drop)]
+#[derive(Clone, Copy)]
 pub enum Pair {
     // The code of its key, where its value stands, and where the next pair does.
     Whole {
@@ -601,7 +601,7 @@ fn position(keys: [u64; 8], code: u64) -> usize
 
 // The values of the keys asked for, among the pairs passed so far: where the last of each stands, 0
 // where there is none; and whether there are several.
-#[derive(Drop)]
+#[derive(Clone, Copy)]
 struct Values {
     places: [usize; 8],
     repeated: [bool; 8],
@@ -625,7 +625,7 @@ fn with_value(values: Values, j: usize, place: usize) -> Values
 
 // An item passed over; whether it is a whole map; and if so, of each key asked for where its last value
 // stands, 0 where the key is missing, and whether it is repeated.
-#[derive(Drop)]
+#[derive(Clone, Copy)]
 pub struct Pairs {
     pub passed: Passed,
     pub map: bool,

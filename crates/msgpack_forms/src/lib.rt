@@ -11,7 +11,7 @@ ghost use Rattle.msgpack_forms.specs.Items.{argument_of, integer_form_by, form_r
 use msgpack::{Head, Integer, Passed};
 
 // What an item says, as an integer, by its magnitude; and whether it stands in its short form.
-#[derive(Drop)]
+#[derive(Clone, Copy)]
 struct Form {
     argument: u64,
     negative: bool,
@@ -163,7 +163,7 @@ pub fn all_short(s: &[u8]) -> bool
 
 // An item: its kind; how many bytes it has, with all that it holds; what it says, by its magnitude;
 // and whether it stands in its short form.
-#[derive(Drop)]
+#[derive(Clone, Copy)]
 pub struct Item {
     pub kind: usize,
     pub size: usize,
@@ -172,7 +172,7 @@ pub struct Item {
     pub short: bool,
 }
 
-#[derive(Drop)]
+#[derive(Clone, Copy)]
 pub enum Front {
     Item(Item),
     Refused(u8),

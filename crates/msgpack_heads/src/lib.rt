@@ -6,7 +6,7 @@ ghost use Rattle.slices.specs.Overwriting.{written_bytes};
 ghost use Rattle.msgpack_heads.specs.Heads.{form_read, form_bytes, sized_form, text_form, unsigned_form, container_form, text_head, binary_head, unsigned_integer, array_head, map_head, next_place, next_of};
 
 // A first byte, and the width of the number after it.
-#[derive(Drop)]
+#[derive(Clone, Copy)]
 struct Form {
     first: u64,
     width: usize,
@@ -84,7 +84,7 @@ fn container_form(fixed: u64, sized: u64, n: u64) -> Form
 
 // What a write answers: the place after what was written; or that it does not all lie within the
 // buffer, and nothing was written.
-#[derive(Drop)]
+#[derive(Clone, Copy)]
 pub enum Written {
     Next(usize),
     NoRoom,

@@ -11,7 +11,7 @@ ghost use Rattle.pack.specs.Walk.{yield_of, call_of, turn_at, nth_yield};
 use tlv::{Fault, RecordHeader, Step};
 
 // A record of a pack: where it starts, its tag, and its value's length and hash.
-#[derive(Drop)]
+#[derive(Clone, Copy)]
 pub struct Entry {
     pub start: usize,
     pub tag: u16,
@@ -20,7 +20,7 @@ pub struct Entry {
 }
 
 // How many records a pack has, or the refusal.
-#[derive(Drop)]
+#[derive(Clone, Copy)]
 pub enum Checked {
     Records(usize),
     TooLong,
@@ -50,7 +50,7 @@ pub fn check(pack: &[u8]) -> Checked
 // ---- the scan, which fills a lent list
 
 // How many entries were filled in, or the refusal. The list is too short: refusal 19.
-#[derive(Drop)]
+#[derive(Clone, Copy)]
 pub enum Scanned {
     Filled(usize),
     TooLong,
@@ -88,7 +88,7 @@ fn to_write(s: Scanned) -> usize
 }
 
 // The entry of the record at a place, and the place after it.
-#[derive(Drop)]
+#[derive(Clone, Copy)]
 pub struct Listed {
     pub entry: Entry,
     pub next: usize,
@@ -139,7 +139,7 @@ pub fn scan(pack: &[u8], list: &mut [Entry]) -> Scanned
 // ---- the search by a value's hash
 
 // The place in a list of the first entry that is looked for, counted from 0, or that there is none.
-#[derive(Drop)]
+#[derive(Clone, Copy)]
 pub enum Match {
     At(usize),
     Nothing,
@@ -163,13 +163,13 @@ pub fn find_hash(entries: &[Entry], hash: u64) -> Match
 // ---- the walker, which yields one record a call
 
 // The lent pack, and the place reached.
-#[derive(Drop)]
+#[derive(Clone, Copy)]
 pub struct Walker<'a> {
     pack: &'a [u8],
     at: usize,
 }
 
-#[derive(Drop)]
+#[derive(Clone, Copy)]
 pub enum Walked {
     Record(Entry),
     End,
@@ -178,7 +178,7 @@ pub enum Walked {
 }
 
 // What a call answers, and the place that it leaves the walker at.
-#[derive(Drop)]
+#[derive(Clone, Copy)]
 pub struct Turn {
     pub walked: Walked,
     pub at: usize,

@@ -31,7 +31,7 @@ const RANGE_KEYS: [u64; 8] = [0x173, 0x16c, 0, 0, 0, 0, 0, 0];
 const GREATEST: u64 = 0xffff_ffff_ffff_ffff;
 
 // Refusals 16 to 18 of document 01, 21 and 22.
-#[derive(Drop)]
+#[derive(Clone, Copy)]
 pub enum Fault {
     Part(primary::Fault),
     // A range ends above 2^64 - 1, or the lengths listed exceed the pack's range.
@@ -50,13 +50,13 @@ pub fn number(f: Fault) -> u8
 
 // ---- ranges
 
-#[derive(Drop)]
+#[derive(Clone, Copy)]
 pub struct Range {
     pub start: u64,
     pub len: u64,
 }
 
-#[derive(Drop)]
+#[derive(Clone, Copy)]
 enum RangeRead {
     // With whether a key repeats in its map.
     Range(Range, bool),
@@ -105,13 +105,13 @@ fn is_short(r: Range) -> bool
 // ---- arrays of numbers
 
 // How many, and where the first of them stands.
-#[derive(Drop)]
+#[derive(Clone, Copy)]
 pub struct Numbers {
     pub count: usize,
     pub first: usize,
 }
 
-#[derive(Drop)]
+#[derive(Clone, Copy)]
 enum NumbersRead {
     Numbers(Numbers),
     Missing,
@@ -152,7 +152,7 @@ pub fn after(part: &[u8], at: usize) -> usize
     }
 }
 
-#[derive(Drop)]
+#[derive(Clone, Copy)]
 enum Lengths {
     // Whether all of them together are at most the total, and what they leave of it.
     Natural(bool, u64),
@@ -201,14 +201,14 @@ fn less(a: u64, b: u64) -> u64
 
 // Of the blocks of an entry: the sum of the deltas above 0, and the source length with the magnitudes
 // of those below; and whether both are within 64 bits.
-#[derive(Drop)]
+#[derive(Clone, Copy)]
 struct Sums {
     gains: u64,
     losses: u64,
     counted: bool,
 }
 
-#[derive(Drop)]
+#[derive(Clone, Copy)]
 enum Deltas {
     Summed(Sums),
     Missing,
@@ -312,7 +312,7 @@ fn stride_for(sums: Sums, blocks: usize) -> u64
 
 // Where the pack's ULID stands, the range of the version, that of the pack, the stored lengths of blocks
 // that are listed, and the deltas of source lengths from the stride.
-#[derive(Drop)]
+#[derive(Clone, Copy)]
 pub struct Entry {
     pub pack: Place,
     pub source: Range,
@@ -324,7 +324,7 @@ pub struct Entry {
 // What is told of an entry: how many bytes it has; whether a key repeats in it; whether it keeps the rule
 // for ULIDs, and that for ranges and lengths; how many blocks it has; the stride that it asks for, and
 // whether it takes part in finding the list's.
-#[derive(Drop)]
+#[derive(Clone, Copy)]
 struct Tests {
     size: usize,
     repeated: bool,
@@ -335,7 +335,7 @@ struct Tests {
     counted: bool,
 }
 
-#[derive(Drop)]
+#[derive(Clone, Copy)]
 enum EntryRead {
     Entry(Entry, Tests),
     Missing,
@@ -343,7 +343,7 @@ enum EntryRead {
 
 // How many bytes an entry has; where the values of its keys stand, 0 where a key is missing; and whether
 // one repeats.
-#[derive(Drop)]
+#[derive(Clone, Copy)]
 struct EntryPlaces {
     size: usize,
     pack: usize,
@@ -476,7 +476,7 @@ fn holds(source: Range, byte: u64) -> bool
 }
 
 // What the entries so far tell together.
-#[derive(Drop)]
+#[derive(Clone, Copy)]
 struct Survey {
     repeated: bool,
     named: bool,
@@ -486,7 +486,7 @@ struct Survey {
 
 // An entry that holds the byte: its number, and where it stands; how many blocks it has, and whether it
 // takes part in finding the stride.
-#[derive(Drop)]
+#[derive(Clone, Copy)]
 pub struct Held {
     pub number: usize,
     pub at: usize,
@@ -496,13 +496,13 @@ pub struct Held {
 }
 
 // The first of them that holds the byte.
-#[derive(Drop)]
+#[derive(Clone, Copy)]
 pub enum Holder {
     None,
     Entry(Held),
 }
 
-#[derive(Drop)]
+#[derive(Clone, Copy)]
 enum Surveyed {
     Entries(Survey, Holder),
     // One is not as described.
@@ -578,13 +578,13 @@ fn survey_entries(part: &[u8], entries: Numbers, byte: u64) -> Surveyed
 // ---- the list
 
 // The identifier of the version, and where the entries stand.
-#[derive(Drop)]
+#[derive(Clone, Copy)]
 pub struct PackList {
     pub identifier: Texts,
     pub entries: Numbers,
 }
 
-#[derive(Drop)]
+#[derive(Clone, Copy)]
 pub enum ListRead {
     // With the stride, and the first entry that holds the byte.
     List(PackList, u64, Holder),
@@ -664,7 +664,7 @@ pub fn read_for(part: &[u8], byte: u64) -> ListRead
     list_by(identifier, entries, all, holder)
 }
 
-#[derive(Drop)]
+#[derive(Clone, Copy)]
 pub enum Reading {
     List(PackList),
     Refused(Fault),
@@ -682,7 +682,7 @@ pub fn read(part: &[u8]) -> Reading
 }
 
 // An entry, how many blocks it has, and where the next one stands.
-#[derive(Drop)]
+#[derive(Clone, Copy)]
 pub enum NextEntry {
     Entry(Entry, usize, usize),
     Missing,

@@ -20,7 +20,7 @@ use tlv::{HeaderRead, RecordHeader};
 pub const LIMIT: usize = 1_099_511_627_776;
 
 // What of a record is taken now; or the refusal with its place, or that the end was announced.
-#[derive(Drop)]
+#[derive(Clone, Copy)]
 pub enum Phase {
     Header,
     Value,
@@ -30,7 +30,7 @@ pub enum Phase {
 
 // What is kept between calls: where the record that is taken now starts, how many were complete
 // before it, its header's bytes, of which so many are held, and the hash of its value so far.
-#[derive(Drop)]
+#[derive(Clone, Copy)]
 pub struct State {
     pub phase: Phase,
     pub start: usize,
@@ -42,7 +42,7 @@ pub struct State {
 
 // More is wanted, a record is complete, a refusal with its place, or the pack has ended with so many
 // records. Malformed: the state is none that a call leaves.
-#[derive(Drop)]
+#[derive(Clone, Copy)]
 pub enum Event {
     Wanted,
     Complete(Entry),
@@ -52,7 +52,7 @@ pub enum Event {
 }
 
 // What a call leaves, what it tells, and how many bytes it took.
-#[derive(Drop)]
+#[derive(Clone, Copy)]
 pub struct Taken {
     pub state: State,
     pub event: Event,
@@ -376,21 +376,21 @@ pub fn end(state: State) -> Taken
 // ---- a whole pack, handed over in parts
 
 // How a pack ends.
-#[derive(Drop)]
+#[derive(Clone, Copy)]
 pub enum Verdict {
     Whole,
     Refused(u8, usize),
 }
 
 // How many records a pack has before its end or the first fault, and how it ends.
-#[derive(Drop)]
+#[derive(Clone, Copy)]
 pub struct Count {
     pub records: usize,
     pub verdict: Verdict,
 }
 
 // So many records were told, and how the pack ends; or the lent words are too few for them.
-#[derive(Drop)]
+#[derive(Clone, Copy)]
 pub enum Fed {
     Told(usize, Verdict),
     Short,

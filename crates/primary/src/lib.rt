@@ -44,7 +44,7 @@ const VERSION_KEYS: [u64; 8] = [0x176, 0x162, 0x16f, 0x164, 0, 0, 0, 0];
 const DELETE_KEYS: [u64; 8] = [0x176, 0x162, 0x16f, 0x13f_3f3f, 0, 0, 0, 0];
 
 // Refusals 16 to 18 of document 01, and 22.
-#[derive(Drop)]
+#[derive(Clone, Copy)]
 pub enum Fault {
     NotWhole,
     NotAsDescribed,
@@ -66,40 +66,40 @@ pub fn number(f: Fault) -> u8
 }
 
 // Where the texts of an identifier stand in the part.
-#[derive(Drop)]
+#[derive(Clone, Copy)]
 pub struct Texts {
     pub ulid: Place,
     pub bucket: Place,
     pub object: Place,
 }
 
-#[derive(Drop)]
+#[derive(Clone, Copy)]
 pub enum BlockRead {
     Read(Texts),
     Fault(Fault),
 }
 
 // With whether the version is a delete marker.
-#[derive(Drop)]
+#[derive(Clone, Copy)]
 pub enum VersionRead {
     Read(Texts, bool),
     Fault(Fault),
 }
 
 // The version that goes, and the delete identifier.
-#[derive(Drop)]
+#[derive(Clone, Copy)]
 pub enum DeleteRead {
     Read(Texts, Place),
     Fault(Fault),
 }
 
-#[derive(Drop)]
+#[derive(Clone, Copy)]
 pub enum TextRead {
     At(Place),
     Missing,
 }
 
-#[derive(Drop)]
+#[derive(Clone, Copy)]
 enum TextsRead {
     At(Texts),
     Missing,
@@ -294,7 +294,7 @@ pub fn read_block(part: &[u8]) -> BlockRead
 
 // What a block's reader tells of a part, and what the same pass tells of the part's map: of `I`, and of
 // the key that was asked for beside it.
-#[derive(Drop)]
+#[derive(Clone, Copy)]
 pub struct BlockBeside {
     pub block: BlockRead,
     pub pairs: Pairs,

@@ -27,7 +27,7 @@ pub const VERSION_DELETE: u16 = 0x7664;
 pub const PACK_LIST: u16 = 0x6f6c;
 
 // Refusals 9 to 18 of document 01, 21 and 22.
-#[derive(Drop)]
+#[derive(Clone, Copy)]
 pub enum Fault {
     // 9 to 12, and 22.
     Value(value::Fault),
@@ -57,7 +57,7 @@ pub fn number(f: Fault) -> u8
 }
 
 // The kind of a record, with what that kind alone tells.
-#[derive(Drop)]
+#[derive(Clone, Copy)]
 pub enum Kind {
     Block,
     // Whether it is a delete marker.
@@ -70,14 +70,14 @@ pub enum Kind {
 
 // What a record tells, as places of the pack: its value's parts; and, in the primary part, its
 // identifier and what belongs to its kind.
-#[derive(Drop)]
+#[derive(Clone, Copy)]
 pub struct Record {
     pub told: Told,
     pub identifier: Texts,
     pub kind: Kind,
 }
 
-#[derive(Drop)]
+#[derive(Clone, Copy)]
 pub enum Reading {
     Record(Record),
     Refused(Fault),
@@ -85,7 +85,7 @@ pub enum Reading {
 
 // ---- the primary part
 
-#[derive(Drop)]
+#[derive(Clone, Copy)]
 enum PartRead {
     Read(Texts, Kind),
     Refused(Fault),
@@ -281,7 +281,7 @@ pub fn read(tag: u16, pack: &[u8], value: Place) -> Reading
 
 // ---- the record at a place of a pack
 
-#[derive(Drop)]
+#[derive(Clone, Copy)]
 pub enum AtPlace {
     // The record, and where its value stands in the pack.
     Record { record: Record, value: Place },

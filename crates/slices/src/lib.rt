@@ -8,7 +8,7 @@ ghost use Rattle.slices.specs.Places.{part_at, address_at};
 ghost use Rattle.slices.specs.Overwriting.{overwritten, written_bytes};
 
 // Where something stands in a slice.
-#[derive(Drop)]
+#[derive(Clone, Copy)]
 pub struct Place {
     pub start: usize,
     pub len: usize,

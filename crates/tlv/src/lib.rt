@@ -10,7 +10,7 @@ ghost use Rattle.tlv.specs.Passing.{inside, pass_at};
 use endian::Number;
 
 // Refusals 2 to 8 of document 01.
-#[derive(Drop)]
+#[derive(Clone, Copy)]
 pub enum Fault {
     HeaderCut,
     Magic,
@@ -37,21 +37,21 @@ pub fn number(f: Fault) -> u8
 }
 
 // What a header says of its record: the tag, and the length and the hash of the value.
-#[derive(Drop)]
+#[derive(Clone, Copy)]
 pub struct RecordHeader {
     pub tag: u16,
     pub length: u64,
     pub hash: u64,
 }
 
-#[derive(Drop)]
+#[derive(Clone, Copy)]
 pub enum HeaderRead {
     Header(RecordHeader),
     Fault(Fault),
 }
 
 // What stands at a place.
-#[derive(Drop)]
+#[derive(Clone, Copy)]
 pub enum Step {
     End,
     Record(RecordHeader),
@@ -197,7 +197,7 @@ pub fn step_at(pack: &[u8], at: usize) -> Step
 }
 
 // A record of a pack that has been checked before, and the place after it.
-#[derive(Drop)]
+#[derive(Clone, Copy)]
 pub struct Passed {
     pub header: RecordHeader,
     pub next: usize,

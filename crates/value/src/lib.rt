@@ -19,7 +19,7 @@ use msgpack::{Content, Integer, Items, Passed};
 use slices::Place;
 
 // Refusals 9 to 12 of document 01, and 22.
-#[derive(Drop)]
+#[derive(Clone, Copy)]
 pub enum Fault {
     // The value begins with no whole item.
     Cut,
@@ -47,7 +47,7 @@ pub fn number(f: Fault) -> u8
 
 // A part of a value: where it stands; `c`, its compression; and whether `z` is there, which tells of
 // its encryption.
-#[derive(Drop)]
+#[derive(Clone, Copy)]
 pub struct Part {
     pub start: usize,
     pub len: usize,
@@ -57,7 +57,7 @@ pub struct Part {
 
 // What a value tells: `v`, the parts, and whether a secondary part is present. Where none is, it has
 // length 0 and the primary's `c` and `z`, and starts at the header's end.
-#[derive(Drop)]
+#[derive(Clone, Copy)]
 pub struct Told {
     pub version: u64,
     pub primary: Part,
@@ -66,7 +66,7 @@ pub struct Told {
 }
 
 // What a value tells, or why it is refused.
-#[derive(Drop)]
+#[derive(Clone, Copy)]
 pub enum Reading {
     Told(Told),
     Refused(Fault),
@@ -127,7 +127,7 @@ fn bytes_under(map: &[u8], place: usize) -> Content
 const HEADER_KEYS: [u64; 8] = [0x165, 0x173, 0x163, 0x17a, 0x176, 0, 0, 0];
 
 // Where their values stand, 0 where a key is missing; and whether one of the keys repeats.
-#[derive(Drop)]
+#[derive(Clone, Copy)]
 struct HeaderPlaces {
     e: usize,
     s: usize,
@@ -141,7 +141,7 @@ struct HeaderPlaces {
 const SECONDARY_KEYS: [u64; 8] = [0x16c, 0x163, 0x17a, 0, 0, 0, 0, 0];
 
 // What a header tells, or that it is not as document 01 describes it.
-#[derive(Drop)]
+#[derive(Clone, Copy)]
 enum Described {
     As(Told),
     Not,

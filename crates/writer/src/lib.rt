@@ -40,7 +40,7 @@ const MARKER: [u8; 3] = [0xa1, b'd', 0xc3];
 
 // What a call answers: how many bytes the pack now has, or a part alone; or refusal 19 or 20 of document
 // 01, where nothing was written.
-#[derive(Drop)]
+#[derive(Clone, Copy)]
 pub enum Written {
     Count(usize),
     Short,

@@ -65,7 +65,7 @@ fn merge_accumulator(acc: u64, other: u64) -> u64
 }
 
 // The state of steps 1 to 3.
-#[derive(Drop)]
+#[derive(Clone, Copy)]
 struct Accumulators {
     acc1: u64,
     acc2: u64,
@@ -215,7 +215,7 @@ pub fn xxh64(s: &[u8]) -> u64
 
 // What is kept between the parts. The first count % 32 bytes of held are those of a stripe that is
 // not whole yet; count is how many bytes were taken, modulo 2^64.
-#[derive(Drop)]
+#[derive(Clone, Copy)]
 pub struct State {
     pub acc1: u64,
     pub acc2: u64,

@@ -47,7 +47,7 @@ same_length c = c.before.before.before.before.before.loop.invariant.long
 returns : tie.Need-returns invariant-loop decreases-loop
 returns c =
     let d = c.before.before in
-    let next = d.next_entry_lem in
+    let next = d.next_entry in
     absurd
     (not_missing _ _ _ (start_of d).requires.1 _ _ _ (turn d).loop.invariant (more d) next.result next.ensures.0 next.ensures.1 c.enum_told.given.1)
 
@@ -72,7 +72,7 @@ loop-again : tie.Need-loop-preserved invariant-loop decreases-loop
 loop-again c =
     let e = c.before.before.before.before.before.before.before.before in
     let d = e.before.before in
-    let next = d.next_entry_lem in
+    let next = d.next_entry in
     goes_on _ _ _ (start_of d).requires.1 _ _ _ (turn d).loop.invariant (more d) next.result next.ensures.0 next.ensures.1 _ _ _ e.e.given.1 _
     c.before.before.store.ensures.1
 

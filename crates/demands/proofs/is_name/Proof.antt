@@ -13,7 +13,7 @@ is-object-requires c κs = search rules
 
 returns : tie.Need-returns
 unfolding is_name
-returns c = λ i. c.before.is-bucket.ensures i && c.is_object_lem.ensures i
+returns c = λ i. c.before.is-bucket.ensures i && c.is_object.ensures i
 
 pub is_name_spec : {M : Type 1} → statement M
 is_name_spec = tie.close (tie.spec is-bucket-requires is-object-requires returns)

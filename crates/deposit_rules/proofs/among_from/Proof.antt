@@ -47,7 +47,7 @@ returns-2 c =
     record {
       are = among_fails _ _ bytes _ l.loop.at l.loop.left (omega arith) l.loop.invariant _ _ _
           (sym (ap pair_of c.before.before.before.code.given.1) ∙ c.before.before.before.before.before.pair-at.ensures)
-          (sym c.before.is_listed_lem.ensures ∙ not-true _ c.if1.true);
+          (sym c.before.is_listed.ensures ∙ not-true _ c.if1.true);
     }
 
 -- src/lib.rt:45:9
@@ -65,7 +65,7 @@ loop-again c =
     let bytes : AllBytes l.before.before.before.args.s.now = record { below = λ k. (l.before.before.shared-slice-known.given k).fits } in
     among_on _ _ bytes _ l.loop.at l.loop.left (omega arith) l.loop.invariant _ _ _
     (sym (ap pair_of c.before.before.before.code.given.1) ∙ c.before.before.before.before.before.pair-at.ensures)
-    (sym c.before.is_listed_lem.ensures ∙ not-false _ c.if1.false)
+    (sym c.before.is_listed.ensures ∙ not-false _ c.if1.false)
 
 -- src/lib.rt:32:1
 returns-3 : tie.Need-returns-3 invariant-loop decreases-loop

@@ -50,7 +50,7 @@ are-name-bytes-requires c κs = search rules
 -- src/lib.rt:212:1
 returns-5 : tie.Need-returns-5
 returns-5 c =
-    c.are_name_bytes_lem.ensures ∙ by_bytes _ (omega arith) (omega arith)
+    c.are_name_bytes.ensures ∙ by_bytes _ (omega arith) (omega arith)
     (sym c.before.before.before.before.before.is-letter-or-digit.ensures ∙ not-false _ c.before.before.before.before.if3.false)
     (sym c.before.before.is-letter-or-digit2.ensures ∙ not-false _ c.before.if4.false)
 

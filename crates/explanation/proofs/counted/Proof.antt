@@ -20,13 +20,13 @@ returns-2 : tie.Need-returns-2
 returns-2 c =
     let b = c.before.before.before.before.before.before.before.before in
     other_counted b.args.pack.now b.args.bucket.now b.args.object.now b.args.role _ _ _ c.before.before.before.role.given.1
-    (not-true _ (rw c.before.has_name_lem.ensures at c.if1.true))
+    (not-true _ (rw c.before.has_name.ensures at c.if1.true))
 
 returns-3 : tie.Need-returns-3
 returns-3 c =
     let b = c.before.before.before.before.before.before.before.before in
     one_counted b.args.pack.now b.args.bucket.now b.args.object.now b.args.role _ _ _ c.before.before.before.role.given.1
-    (not-false _ (rw c.before.has_name_lem.ensures at c.if1.false))
+    (not-false _ (rw c.before.has_name.ensures at c.if1.false))
 
 pub counted_spec : {M : Type 1} → statement M
 counted_spec = tie.close (tie.spec enum-known-role returns has-name-requires returns-2 returns-3)

@@ -30,7 +30,7 @@ put-requires c κs =
     let b = l.before.before.before.before.before in
     let v = c.before.before.visit in
     let walked = walk_on _ _ _ v.result l.loop.invariant.checked (omega arith) v.ensures in
-    line_fits b.args.pack.now b.args.bucket.now b.args.object.now (found_in b.args.pack.now b.args.found) _ _ _ _ l.loop.invariant v.result walked c.before.line_at_lem.result c.before.line_at_lem.ensures
+    line_fits b.args.pack.now b.args.bucket.now b.args.object.now (found_in b.args.pack.now b.args.found) _ _ _ _ l.loop.invariant v.result walked c.before.line_at.result c.before.line_at.ensures
 
 loop-less : tie.Need-loop-smaller invariant-loop decreases-loop
 loop-less c =
@@ -46,7 +46,7 @@ loop-again c =
     let b = l.before.before.before.before.before in
     let v = c.before.before.before.before.before.visit in
     let walked = walk_on _ _ _ v.result l.loop.invariant.checked (omega arith) v.ensures in
-    let line = c.before.before.before.before.line_at_lem in
+    let line = c.before.before.before.before.line_at in
     rw c.before.before.put.ensures.0 (fill_more b.args.pack.now b.args.bucket.now b.args.object.now (found_in b.args.pack.now b.args.found) _ _ _ _ l.loop.invariant v.result walked line.result line.ensures _ c.before.before.put.ensures.1)
 
 same_length : tie.Need-same-length invariant-loop decreases-loop

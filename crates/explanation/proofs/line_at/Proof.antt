@@ -21,7 +21,7 @@ returns-2 : tie.Need-returns-2
 returns-2 c =
     let b = c.before.before.before.before.before.before.before.before in
     other_told _ _ b.args.pack.now b.args.bucket.now b.args.object.now b.args.at b.args.v _ _ _ c.before.before.before.role.given.1
-    (not-true _ (rw c.before.has_name_lem.ensures at c.if1.true))
+    (not-true _ (rw c.before.has_name.ensures at c.if1.true))
 
 part-requires : tie.Need-part-requires
 part-requires c κs = search rules
@@ -34,7 +34,7 @@ returns-3 c =
     let b = c.before.before.before.before.before.before.before.before.before.before in
     (rw c.before.part.ensures.0 at c.row_of.ensures)
     ∙ line_told _ _ b.args.pack.now b.args.bucket.now b.args.object.now b.args.at b.args.v _ _ _ c.before.before.before.before.before.role.given.1
-    (not-false _ (rw c.before.before.before.has_name_lem.ensures at c.before.before.if1.false))
+    (not-false _ (rw c.before.before.before.has_name.ensures at c.before.before.if1.false))
 
 pub line_at_spec : {M : Type 1} → statement M
 line_at_spec =

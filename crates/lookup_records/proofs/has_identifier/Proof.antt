@@ -25,7 +25,7 @@ returns-2 c =
     let k = c.before in
     let b = k.before.before.before.before.before.before.before in
     let same = not-false _ (rw (k.before.same_bytes.ensures, k.before.before.part.ensures.0) at k.if1.false) in
-    rw c.has_name_lem.ensures
+    rw c.has_name.ensures
     (same_ulid b.args.pack.now b.args.t b.args.ulid.now b.args.bucket.now b.args.object.now same)
 
 pub has_identifier_spec : {M : Type 1} → statement M

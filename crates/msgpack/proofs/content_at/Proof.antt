@@ -20,7 +20,7 @@ is-whole-requires c κs = search rules
 
 there : (c : tie.Then1)
     → is_whole c.before.before.before.before.args.kind (head_read c.before.before.head_at.result) (length c.before.before.before.before.args.s.now) ≡ true
-there c = sym c.before.is_whole_lem.ensures ∙ c.if1.true
+there c = sym c.before.is_whole.ensures ∙ c.if1.true
 
 short-count-requires : tie.Need-short-count-requires
 short-count-requires c κs =
@@ -43,7 +43,7 @@ returns c =
 returns-2 : tie.Need-returns-2
 unfolding content_at
 returns-2 c =
-    let nothing = sym c.before.is_whole_lem.ensures ∙ c.if1.false in
+    let nothing = sym c.before.is_whole.ensures ∙ c.if1.false in
     (rw (← c.before.before.head_at.ensures.is, nothing), rw (← c.before.before.head_at.ensures.is, nothing))
 
 pub content_at_spec : {M : Type 1} → statement M

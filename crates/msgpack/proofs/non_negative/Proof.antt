@@ -13,7 +13,7 @@ is-signed-requires c κs = search rules
 
 returns : tie.Need-returns
 unfolding is_short_integer signed_well
-returns c = record { value = refl; form = rw (c.before.short-width.ensures, c.is_signed_lem.ensures) }
+returns c = record { value = refl; form = rw (c.before.short-width.ensures, c.is_signed.ensures) }
 
 pub non_negative_spec : {M : Type 1} → statement M
 non_negative_spec = tie.close (tie.spec short-width-requires is-signed-requires returns)

@@ -18,16 +18,16 @@ is-whole-requires c κs = search rules
 shared-slice-read-t7 : tie.Need-shared-slice-read-t7
 shared-slice-read-t7 c =
     let h = c.before.before.before.head_at in
-    let k = (is_whole_lem boolean_kind (head_read h.result) _ (sym c.before.before.is_whole_lem.ensures ∙ c.before.if1.true)).of_kind in
+    let k = (is_whole_lem boolean_kind (head_read h.result) _ (sym c.before.before.is_whole.ensures ∙ c.before.if1.true)).of_kind in
     has_byte c.before.before.before.before.before.args.s.now (rw (← h.ensures.is, k) (omega arith))
 
 returns : tie.Need-returns
 unfolding read_boolean
-returns c = rw (← c.before.before.before.head_at.ensures.is, sym c.before.before.is_whole_lem.ensures ∙ c.before.if1.true)
+returns c = rw (← c.before.before.before.head_at.ensures.is, sym c.before.before.is_whole.ensures ∙ c.before.if1.true)
 
 returns-2 : tie.Need-returns-2
 unfolding read_boolean
-returns-2 c = rw (← c.before.before.head_at.ensures.is, sym c.before.is_whole_lem.ensures ∙ c.if1.false)
+returns-2 c = rw (← c.before.before.head_at.ensures.is, sym c.before.is_whole.ensures ∙ c.if1.false)
 
 pub read_boolean_spec : {M : Type 1} → statement M
 read_boolean_spec =

@@ -19,7 +19,7 @@ bytes : (c : tie.Then1) → AllBytes c.before.before.before.before.args.s.now
 bytes c = record { below = λ k. (c.before.before.before.shared-slice-known.given k).fits }
 
 whole_head : (c : tie.Then1) → IsWhole integer_kind (head_read c.before.before.head_at.result) (length c.before.before.before.before.args.s.now)
-whole_head c = is_whole_lem integer_kind (head_read c.before.before.head_at.result) _ (sym c.before.is_whole_lem.ensures ∙ c.if1.true)
+whole_head c = is_whole_lem integer_kind (head_read c.before.before.head_at.result) _ (sym c.before.is_whole.ensures ∙ c.if1.true)
 
 -- so the number can be read
 within : (c : tie.Then1) → Within (length c.before.before.before.before.args.s.now) c.before.before.head_at.result.size c.before.before.head_at.result.count
@@ -64,7 +64,7 @@ unfolding read_integer
 returns c =
     let t = c.before.before.before.before.before.before in
     let h = t.before.before.head_at in
-    let there = sym t.before.is_whole_lem.ensures ∙ t.if1.true in
+    let there = sym t.before.is_whole.ensures ∙ t.if1.true in
     let n = number c.before.before in (
       c.integer-of.ensures.value ∙ rw (← h.ensures.is, there, n),
       c.integer-of.ensures.form ∙ integer_form t.before.before.before.before.args.s.now (bytes t) (head_read h.result) h.ensures.is there _ n,
@@ -76,7 +76,7 @@ returns-2 c = absurd (read_missing big _ _ _ (within c.before.before.before) _ c
 returns-3 : tie.Need-returns-3
 unfolding read_integer
 returns-3 c =
-    let nothing = sym c.before.is_whole_lem.ensures ∙ c.if1.false in
+    let nothing = sym c.before.is_whole.ensures ∙ c.if1.false in
     (rw (← c.before.before.head_at.ensures.is, nothing), rw (← c.before.before.head_at.ensures.is, nothing))
 
 pub read_integer_spec : {M : Type 1} → statement M

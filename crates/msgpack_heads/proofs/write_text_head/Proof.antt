@@ -9,14 +9,14 @@ text-form-requires : tie.Need-text-form-requires
 text-form-requires c κs = search rules
 
 put-requires : tie.Need-put-requires
-put-requires c κs = chosen_small (form_read c.text_form_lem.result) _ c.text_form_lem.ensures (text_small c.before.before.before.args.n)
+put-requires c κs = chosen_small (form_read c.text_form.result) _ c.text_form.ensures (text_small c.before.before.before.args.n)
 
 same_length : tie.Need-same-length
 same_length c = search rules
 
 returns : tie.Need-returns
 returns c =
-    let f = c.before.before.before.text_form_lem in
+    let f = c.before.before.before.text_form in
     let p = c.before.before.put.ensures in
     let a = c.before.before.before.before.before.before.args in
     chosen_written (form_read f.result) _ f.ensures a.out.now a.at a.n _ _ p.0 p.1

@@ -88,10 +88,10 @@ pack c = let d = c.before.before.before in text_read d ∙ ap (text_of (bytes (a
 range-under-requires : tie.Need-range-under-requires
 range-under-requires c κs = let a = at_pack c.before.before.before in (a.pre.0, value_at_lem source_key _ _ a.pre.1.source)
 
-source_read : (c : tie.After-range-under) → at_place none range_told (byte_view.under source_key (map_at (at_source c))) ≡ range_of c.range_under_lem.result
+source_read : (c : tie.After-range-under) → at_place none range_told (byte_view.under source_key (map_at (at_source c))) ≡ range_of c.range_under.result
 source_read c =
     let a = at_source c in
-    read_told none range_told source_key (map_at a) a.args.places.source a.pre.1.source ∙ sym c.range_under_lem.ensures
+    read_told none range_told source_key (map_at a) a.args.places.source a.pre.1.source ∙ sym c.range_under.ensures
 
 enum-known-source : tie.Need-enum-known-source
 enum-known-source c = search rules

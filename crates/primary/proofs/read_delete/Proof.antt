@@ -92,10 +92,10 @@ enum-told-2 c = search rules
 
 -- the text that was read there
 text_read : (c : tie.After-text-under)
-    → text_of c.before.before.before.before.before.before.before.before.before.before.before.before.args.part.now c.text_under_lem.result
+    → text_of c.before.before.before.before.before.before.before.before.before.before.before.before.args.part.now c.text_under.result
     ≡ text_under byte_view delete_id_key c.before.before.before.before.before.before.before.before.before.before.before.before.args.part.now
 text_read c =
-    c.text_under_lem.ensures.0 ∙ text_told _ _ (get_or c.before.before.before.before.before.before.before.before.before.before.read_pairs.result.places 3 0) (place c.before)
+    c.text_under.ensures.0 ∙ text_told _ _ (get_or c.before.before.before.before.before.before.before.before.before.before.read_pairs.result.places 3 0) (place c.before)
 
 returns-4 : tie.Need-returns-4
 returns-4 c =
@@ -115,7 +115,7 @@ delete_text_lem c =
 
 delete_within : (c : tie.After-known-told2)
     → Inside c.before.before.before.before.before.before.before.before.before.before.before.before.before.before.before.args.part.now c.before.id.given.0.0
-delete_within c = c.before.before.before.text_under_lem.ensures.1.text _ c.before.id.given.1
+delete_within c = c.before.before.before.text_under.ensures.1.text _ c.before.id.given.1
 
 array-read-if3 : tie.Need-array-read-if3
 array-read-if3 c = search rules

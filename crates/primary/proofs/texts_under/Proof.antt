@@ -13,9 +13,9 @@ use Rattle.primary.proofs.texts_under.Statement.{statement}
 use Rattle.primary.proofs.texts_under.Tie as tie
 
 -- the text that was read under each key
-ulid_read : (c : tie.After-text-under) → text_of c.before.before.args.part.now c.text_under_lem.result
+ulid_read : (c : tie.After-text-under) → text_of c.before.before.args.part.now c.text_under.result
     ≡ text_under byte_view ulid_key (drop c.before.before.args.at c.before.before.args.part.now)
-ulid_read c = let a = c.before.before in c.text_under_lem.ensures.0 ∙ text_told _ _ (get_or a.args.t3 0 0) a.requires.1.ulid
+ulid_read c = let a = c.before.before in c.text_under.ensures.0 ∙ text_told _ _ (get_or a.args.t3 0 0) a.requires.1.ulid
 
 bucket_read : (c : tie.After-text-under2) → text_of c.before.before.before.before.before.before.args.part.now c.text-under2.result
     ≡ text_under byte_view bucket_key (drop c.before.before.before.before.before.before.args.at c.before.before.before.before.before.before.args.part.now)
@@ -51,7 +51,7 @@ ulid : (c : tie.After-known-told) → some (part_at c.before.before.before.befor
 ulid c = sym (ap (text_of c.before.before.before.before.before.args.part.now) c.before.ulid.given.1) ∙ ulid_read c.before.before.before
 
 ulid_within : (c : tie.After-known-told) → Inside c.before.before.before.before.before.args.part.now c.before.ulid.given.0.0
-ulid_within c = c.before.before.before.text_under_lem.ensures.1.text _ c.before.ulid.given.1
+ulid_within c = c.before.before.before.text_under.ensures.1.text _ c.before.ulid.given.1
 
 array-read-text-under-2 : tie.Need-array-read-text-under-2
 array-read-text-under-2 c = search rules

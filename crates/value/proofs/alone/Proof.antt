@@ -16,7 +16,7 @@ bytes_read : (c : tie.After-known-told) → bytes_under primary_key c.before.bef
     ≡ some (part c.before.start.given.0.0 c.before.start.given.0.1.0)
 bytes_read c =
     bytes_told _ _ c.before.before.before.before.before.args.places.e c.before.before.before.before.before.requires.primary
-    ∙ sym c.before.before.before.bytes_under_lem.ensures ∙ ap part_of c.before.start.given.1
+    ∙ sym c.before.before.before.bytes_under.ensures ∙ ap part_of c.before.start.given.1
 
 compression_read : (c : tie.After-known-told2) → natural_under byte_view compression_key c.before.before.before.before.before.before.before.before.before.args.map.now (some 0)
     ≡ some c.before.compression.given.0.0
@@ -42,7 +42,7 @@ enum_told c = search rules
 
 returns : tie.Need-returns
 unfolding header_alone alone
-returns c = rw (bytes_told _ _ c.before.before.before.before.args.places.e c.before.before.before.before.requires.primary ∙ sym c.before.before.bytes_under_lem.ensures ∙ ap part_of c.enum_told.given.1)
+returns c = rw (bytes_told _ _ c.before.before.before.before.args.places.e c.before.before.before.before.requires.primary ∙ sym c.before.before.bytes_under.ensures ∙ ap part_of c.enum_told.given.1)
 
 natural-under-requires : tie.Need-natural-under-requires
 natural-under-requires c κs = search rules

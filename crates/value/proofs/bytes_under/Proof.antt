@@ -12,7 +12,7 @@ bytes-at-requires : tie.Need-bytes-at-requires
 bytes-at-requires c κs = search rules
 
 returns-2 : tie.Need-returns-2
-returns-2 c = c.bytes_at_lem.ensures ∙ rw (told_found _ c.before.if1.false)
+returns-2 c = c.bytes_at.ensures ∙ rw (told_found _ c.before.if1.false)
 
 pub bytes_under_spec : {M : Type 1} → statement M
 bytes_under_spec = tie.close (tie.spec returns bytes-at-requires returns-2)

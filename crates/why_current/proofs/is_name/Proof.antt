@@ -18,7 +18,7 @@ is-object-requires c κs = search rules
 
 returns : tie.Need-returns
 unfolding is_name
-returns c = rw (c.before.before.is-bucket.ensures, c.before.before.before.bucket.ensures, c.is_object_lem.ensures, c.before.object.ensures)
+returns c = rw (c.before.before.is-bucket.ensures, c.before.before.before.bucket.ensures, c.is_object.ensures, c.before.object.ensures)
 
 pub is_name_spec : {M : Type 1} → statement M
 is_name_spec =

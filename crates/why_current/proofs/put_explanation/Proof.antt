@@ -36,10 +36,10 @@ abbrev explanation : tie.After-explain → Answer
 explanation c = explain pack_limit c.before.before.before.before.before.before.before.before.args.pack.now c.before.before.before.bucket.result.now c.before.before.object.result.now
 
 answer : (c : tie.After-explain) → explained_of c.explain.result ≡ fitted (outcome (explanation c)) (length no_rows / 3)
-answer c = c.explain.ensures.0 ∙ ap (λ (rows : List ℕ). fitted (outcome (explanation c)) (length rows / 3)) c.before.before.before.before.no_rows_lem.ensures
+answer c = c.explain.ensures.0 ∙ ap (λ (rows : List ℕ). fitted (outcome (explanation c)) (length rows / 3)) c.before.before.before.before.no_rows.ensures
 
 words : (c : tie.After-explain) → c.explain.new.1.1.1.0 ≡ told_after (explanation c) no_rows
-words c = c.explain.ensures.1.0 ∙ ap (told_after (explanation c)) c.before.before.before.before.no_rows_lem.ensures
+words c = c.explain.ensures.1.0 ∙ ap (told_after (explanation c)) c.before.before.before.before.no_rows.ensures
 
 enum-known-n : tie.Need-enum-known-n
 enum-known-n c = search rules
@@ -60,7 +60,7 @@ ulid c = c.part.ensures.0 ∙ c.before.before.before.before.before.before.before
 put-rows-requires : tie.Need-put-rows-requires
 put-rows-requires c κs =
     let t = is_told c.before.before.before in
-    ((t.few, omega (arith, t.few, c.before.before.before.before.before.before.before.explain.auto.1.1.1.0, ap length c.before.before.before.before.before.before.before.before.before.before.before.no_rows_lem.ensures, rows_length)), rw (ulid c) t.short, c.before.before.before.before.before.before.before.before.before.before.before.before.before.before.before.requires.1)
+    ((t.few, omega (arith, t.few, c.before.before.before.before.before.before.before.explain.auto.1.1.1.0, ap length c.before.before.before.before.before.before.before.before.before.before.before.no_rows.ensures, rows_length)), rw (ulid c) t.short, c.before.before.before.before.before.before.before.before.before.before.before.before.before.before.before.requires.1)
 
 enum_told : tie.Need-enum-told
 enum_told c = search rules
