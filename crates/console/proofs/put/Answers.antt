@@ -1,6 +1,4 @@
 -- `console::put` meets its contract. Whether the bytes were written is whether there is room.
-use borrow.Author.Rules.{rules}
-use borrow.Author.Tests.{leb-true}
 use mathlib.Core.Bool.{true}
 use mathlib.Core.Path.{◌≡◌, sym, ◌∙◌}
 use Prim.Native.Nat.{◌+◌}
@@ -13,12 +11,6 @@ use Rattle.console.proofs.put.Goals.{Then-write_bytes}
 -- it was written, so there is room
 written : (c : Then-write_bytes) → leb (c.args.at + length c.args.text.now) (length c.args.out.now) ≡ true
 written c = sym c.write_bytes.ensures.value ∙ c.if-write_bytes.true
-
-pub overflow_add-result : goal.overflow_add-result
-overflow_add-result c =
-    let b = c in
-    let room = leb-true (b.args.at + length b.args.text.now) (length b.args.out.now) (written c) in
-    search rules
 
 pub returns-then-write_bytes : goal.returns-then-write_bytes
 returns-then-write_bytes c = put_written c.write_bytes.ensures.out_after (written c)
