@@ -1,23 +1,21 @@
 -- The encoding that the writer's heads make of a value, and those of the integers and extensions that it has no use for: it is one, no integer of at least 0
 -- in it stands in a signed form, and none is shorter.
-use Rattle.std.specs.Prelude.{ℕ, zero, suc, ◌+◌, ◌-◌, ◌^◌, ◌≤◌, ◌<◌, Bool, true, false, cond, ◌&&◌, ◌||◌, List, [], ◌∷◌, ◌++◌, ◌≡◌, refl, leb, eqb, length, get_or}
+use Rattle.std.specs.Prelude.{ℕ, suc, ◌+◌, ◌-◌, ◌^◌, ◌≤◌, ◌<◌, Bool, true, false, cond, ◌&&◌, ◌||◌, List, [], ◌∷◌, ◌++◌, ◌≡◌, refl, leb, eqb, length, get_or}
 use Rattle.std.proofs.Common.{append_assoc, sym, ap, ◌∙◌, lt_of_lt_of_le, arith, eq-eqb, ne_eqb, eqb-true, leb-true, lit<, length-append}
-use Rattle.std.proofs.Math.Option.{some}
 use Rattle.std.proofs.Math.Nat.{pow-le-pow_right}
 use Rattle.std.proofs.Math.ListN.{get_or-append}
-use Rattle.slices.specs.Bytes.{AllBytes}
 use Rattle.slices.specs.Logic.{absurd_numbers}
 use Rattle.slices.specs.Tables.{agree}
 use Rattle.endian.specs.Numbers.{big_bytes, little_bytes}
-use Rattle.msgpack.specs.Formats.{unused_kind, integer_kind, text_kind, binary_kind, extension_kind, array_kind, map_kind, formats, format_of}
+use Rattle.msgpack.specs.Formats.{integer_kind, text_kind, binary_kind, extension_kind, array_kind, map_kind, formats, format_of}
 use Rattle.msgpack.specs.Items.{Head, head, head_of}
 use Rattle.msgpack.specs.Readers.{Int, plus, minus}
-use Rattle.msgpack_heads.specs.Heads.{Form, form, form_bytes, sized_form, unsigned_form, text_head, binary_head, unsigned_integer, array_head, map_head}
+use Rattle.msgpack_heads.specs.Heads.{form, form_bytes, sized_form, unsigned_form, text_head, binary_head, unsigned_integer, array_head, map_head}
 use Rattle.msgpack.specs.Short.{fixed_holds, short_width, argument_width, is_signed, signed_well, is_short}
 use Rattle.msgpack_forms.specs.Items.{argument_of, argument_at, form_at}
 use Rattle.msgpack_model.specs.Values.{Value, Nil, Boolean, Integer, Float, Text, Binary, Extension, Array, Map, Values, no_values_lem, value, Pairs, no_pairs, pair, count_values, count_pairs}
 use Rattle.msgpack_model.specs.Encoding.{Number, Signed, non_negative, negative, TextHead, fixstr, str8, str16, str32, BinaryHead, bin8, bin16, bin32, ExtensionHead, fixext1, fixext2, fixext4, fixext8, fixext16, ext8, ext16, ext32, ArrayHead, fixarray, array16, array32, MapHead, fixmap, map16, map32, Scalar, nil, false_byte, true_byte, positive_fixint, negative_fixint, uint8, uint16, uint32, uint64, int8, int16, int32, int64, float32, float64, text, binary, extension, Encodes, scalar, array, map, EncodesValues, none, next, EncodesPairs, no_pair, next_pair}
-use Rattle.msgpack_model.specs.Heads.{Begins, text_begins, binary_begins, extension_begins, array_begins, map_begins, scalar_of, Flat, scalar_flat}
+use Rattle.msgpack_model.specs.Heads.{text_begins, binary_begins, extension_begins, array_begins, map_begins, scalar_of, Flat, scalar_flat}
 use Rattle.msgpack_model.specs.Scalars.{flat_head}
 use Rattle.msgpack_model.specs.Readers.{integer_reads}
 use Rattle.msgpack_model.specs.Writers.{number_written, number_lt, by_test, sized_by, text_head_lem, binary_head_lem, array_head_lem, map_head_lem, unsigned_written, unsigned_shortest, array_head_shortest, map_head_shortest}

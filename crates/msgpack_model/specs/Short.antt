@@ -1,24 +1,23 @@
 -- THE MEANING OF THE SHORT FORM (request 8), over MessagePack's values: of a head, and of an item with everything in it.
-use Rattle.std.specs.Prelude.{ℕ, zero, suc, ◌+◌, ◌^◌, ◌≤◌, ◌<◌, Bool, true, false, List, [], ◌∷◌, ◌++◌, ◌↔◌, ◌≡◌, refl, leb, length, get_or, drop}
-use Rattle.std.proofs.Common.{append_assoc, sym, ap, ◌∙◌, not-suc-le-zero, arith, leb-true, leb-false, length-append}
+use Rattle.std.specs.Prelude.{ℕ, zero, suc, ◌+◌, ◌^◌, ◌≤◌, ◌<◌, Bool, true, false, List, ◌++◌, ◌↔◌, ◌≡◌, refl, leb, length, drop}
+use Rattle.std.proofs.Common.{append_assoc, sym, ◌∙◌, not-suc-le-zero, arith, leb-true, leb-false, length-append}
 use Rattle.std.proofs.Math.Seq.{drop-append_seam}
 use Rattle.slices.specs.Logic.{absurd_numbers}
 use Rattle.msgpack.specs.Formats.{array_kind, map_kind}
-use Rattle.msgpack.specs.Items.{Head, Passage, whole, too_deep, head, head_of, items_of, beyond, pass_items, pass_item, depth_allowed}
+use Rattle.msgpack.specs.Items.{Passage, whole, head, head_of, items_of, beyond, pass_items, pass_item, depth_allowed}
 use Rattle.msgpack.specs.PassingLaws.{too_deep_lem, beyond_whole, joined}
-use Rattle.msgpack.specs.Readers.{Int, plus}
 use Rattle.msgpack_heads.specs.Heads.{text_head, binary_head, array_head, map_head}
 use Rattle.msgpack_forms.specs.Items.{form_at, short_item, all_short}
-use Rattle.msgpack_forms.specs.ShortLaws.{short_flat, short_within, short_whole, AllShort, all_short_lem, is_all_short}
-use Rattle.msgpack_model.specs.Values.{Value, Integer, Array, Map, Values, no_values_lem, value, Pairs, no_pairs, pair, count_values, count_pairs, depth, values_depth, pairs_depth}
-use Rattle.msgpack_model.specs.Encoding.{TextHead, BinaryHead, ExtensionHead, ArrayHead, MapHead, Scalar, Encodes, scalar, array, map, EncodesValues, none, next, EncodesPairs, no_pair, next_pair}
+use Rattle.msgpack_forms.specs.ShortLaws.{short_flat, short_within, short_whole, all_short_lem, is_all_short}
+use Rattle.msgpack_model.specs.Values.{Value, Array, Map, Values, value, Pairs, pair, count_values, count_pairs, depth, values_depth, pairs_depth}
+use Rattle.msgpack_model.specs.Encoding.{TextHead, BinaryHead, ExtensionHead, ArrayHead, MapHead, Scalar, Encodes, scalar, array, map, none, next, no_pair, next_pair}
 use Rattle.msgpack_model.specs.Heads.{Begins, array_begins, map_begins}
 use Rattle.msgpack_model.specs.Complete.{complete}
 use Rattle.msgpack_model.specs.Deep.{deeper}
 use Rattle.msgpack_model.specs.Sound.{scalar_depth}
-use Rattle.msgpack_model.specs.Writers.{text_head_lem, binary_head_lem, array_head_lem, map_head_lem, text_head_shortest, binary_head_shortest, array_head_shortest, map_head_shortest}
+use Rattle.msgpack_model.specs.Writers.{text_head_lem, binary_head_lem, array_head_lem, map_head_lem, array_head_shortest, map_head_shortest}
 use Rattle.msgpack_model.specs.Shorts.{extension_head, Verdict, same, longer, text_verdict, binary_verdict, extension_verdict, array_verdict, map_verdict}
-use Rattle.msgpack_model.specs.Encoded.{scalar_flat_kind, encoded, encoded_values, encoded_pairs, SignedPlus, WellSigned, well_scalar, well_array, well_map, WellSignedValues, well_none, well_next, WellSignedPairs, well_no_pair, well_pair, well_encodes, text_form_lem, binary_form, extension_form_lem, array_form, map_form, ScalarVerdict, is_encoded, is_longer, is_signed_lem, scalar_verdict, text_small, binary_small, extension_small, array_small, map_small, extension_head_lem, signed_plus, encoded_well, encoded_least, Least, well_least}
+use Rattle.msgpack_model.specs.Encoded.{scalar_flat_kind, encoded, encoded_values, encoded_pairs, SignedPlus, WellSigned, well_scalar, well_array, well_map, well_encodes, text_form_lem, binary_form, extension_form_lem, array_form, map_form, ScalarVerdict, is_encoded, is_longer, is_signed_lem, scalar_verdict, text_small, binary_small, extension_small, array_small, map_small, extension_head_lem, signed_plus, encoded_well, encoded_least, well_least}
 
 -- ---- a head
 

@@ -1,17 +1,17 @@
 -- The short form row by row of the table: each row either is the one that the writer takes, or is longer, or is a signed form of an integer of at least 0.
-use Rattle.std.specs.Prelude.{ℕ, zero, suc, ◌+◌, ◌-◌, ◌^◌, ◌≤◌, ◌<◌, Bool, cond, ◌&&◌, List, [], ◌∷◌, ◌++◌, ◌≡◌, ltb, eqb, length, get_or}
+use Rattle.std.specs.Prelude.{ℕ, ◌+◌, ◌-◌, ◌^◌, ◌≤◌, ◌<◌, Bool, cond, ◌&&◌, List, [], ◌∷◌, ◌≡◌, ltb, eqb, length, get_or}
 use Rattle.std.proofs.Math.Bool.{true, false}
 use Rattle.std.proofs.Math.Path.{refl}
-use Rattle.std.proofs.Common.{sym, ap, ◌∙◌, arith}
-use borrow.Author.Tests.{lt-ltb, le-ltb, ltb-true, ltb-false, le-leb, lt-leb, leb-true, leb-false}
+use Rattle.std.proofs.Common.{sym, ap, arith}
+use borrow.Author.Tests.{lt-ltb, le-ltb, ltb-true, ltb-false, leb-false}
 use Rattle.std.proofs.Math.Dec.{leb}
 use Rattle.slices.specs.Tables.{agree}
 use Rattle.endian.specs.Numbers.{big_bytes, little_bytes, bytes_of_big}
 use Rattle.msgpack.specs.Formats.{integer_kind, text_kind, binary_kind, extension_kind, array_kind, map_kind, formats, format_of}
-use Rattle.msgpack.specs.Readers.{Int, plus, minus}
+use Rattle.msgpack.specs.Readers.{plus, minus}
 use Rattle.msgpack_heads.specs.Heads.{Form, form, form_bytes, sized_form, text_form, unsigned_form, container_form, text_head, binary_head, unsigned_integer, array_head, map_head}
 use Rattle.msgpack.specs.Short.{fixed_holds, fits_in, short_width, argument_width, is_signed, signed_well, is_short}
-use Rattle.msgpack_model.specs.Encoding.{Number, Signed, non_negative, negative, TextHead, fixstr, str8, str16, str32, BinaryHead, bin8, bin16, bin32, ExtensionHead, fixext1, fixext2, fixext4, fixext8, fixext16, ext8, ext16, ext32, ArrayHead, fixarray, array16, array32, MapHead, fixmap, map16, map32}
+use Rattle.msgpack_model.specs.Encoding.{Number, TextHead, fixstr, str8, str16, str32, BinaryHead, bin8, bin16, bin32, ExtensionHead, fixext1, fixext2, fixext4, fixext8, fixext16, ext8, ext16, ext32, ArrayHead, fixarray, array16, array32, MapHead, fixmap, map16, map32}
 use Rattle.msgpack_model.specs.Writers.{number_lt, form_length}
 
 -- ---- the forms that the project's writer has no use for

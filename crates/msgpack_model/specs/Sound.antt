@@ -114,24 +114,30 @@ map_sound a size count m s x y =
 
 -- where no container is allowed
 flat_sound : (s : List ℕ) (n : ℕ) (h : Head) → Front s h → Whole (λ count t. too_deep) h s n → EncodesWithin 0 (take n s)
-flat_sound s n h f (container l p) = absurd_numbers (cc)
-flat_sound s n h (no_item g z) (flat l u i) = absurd (u z)
-flat_sound s n h (scalar_item kind size count l x) (flat m u i) = scalar_sound 0 (x i)
-flat_sound s n h (array_item size count l x) (flat m u i) = absurd (omega arith)
-flat_sound s n h (map_item_lem size count l x) (flat m u i) = absurd (omega arith)
+flat_sound s n h f w = by h n f w
+  where
+    by : (h : Head) (n : ℕ) → Front s h → Whole (λ count t. too_deep) h s n → EncodesWithin 0 (take n s)
+    by h n f (container l p) = absurd_numbers (cc)
+    by h n (no_item g z) (flat l u i) = absurd (u z)
+    by h n (scalar_item kind size count l x) (flat m u i) = scalar_sound 0 (x i)
+    by h n (array_item size count l x) (flat m u i) = absurd (omega arith)
+    by h n (map_item_lem size count l x) (flat m u i) = absurd (omega arith)
 
 module _ (a : ℕ) (one : ItemsSound a (pass_item a)) where
   deep_sound : (s : List ℕ) (n : ℕ) (h : Head) → AllBytes s → Front s h → Whole (pass_items (pass_item a)) h s n → EncodesWithin (suc a) (take n s)
-  deep_sound s n h bytes (no_item g z) (container l p) = absurd (omega arith)
-  deep_sound s n h bytes (no_item g z) (flat l u i) = absurd (u z)
-  deep_sound s n h bytes (scalar_item kind size count l x) (container m p) = absurd (omega arith)
-  deep_sound s n h bytes (scalar_item kind size count l x) (flat m u i) = scalar_sound (suc a) (x i)
-  deep_sound s n h bytes (array_item size count l x) (container {m = m} k p) =
-      array_sound a size count m s x (values_sound a (pass_item a) one count (drop size s) m (drop_bytes size bytes) p)
-  deep_sound s n h bytes (array_item size count l x) (flat m u i) = absurd (omega arith)
-  deep_sound s n h bytes (map_item_lem size count l x) (container {m = m} k p) =
-      map_sound a size count m s x (pairs_sound a (pass_item a) one count (drop size s) m (drop_bytes size bytes) p)
-  deep_sound s n h bytes (map_item_lem size count l x) (flat m u i) = absurd (omega arith)
+  deep_sound s n h bytes f w = by h n f w
+    where
+      by : (h : Head) (n : ℕ) → Front s h → Whole (pass_items (pass_item a)) h s n → EncodesWithin (suc a) (take n s)
+      by h n (no_item g z) (container l p) = absurd (omega arith)
+      by h n (no_item g z) (flat l u i) = absurd (u z)
+      by h n (scalar_item kind size count l x) (container m p) = absurd (omega arith)
+      by h n (scalar_item kind size count l x) (flat m u i) = scalar_sound (suc a) (x i)
+      by h n (array_item size count l x) (container {m = m} k p) =
+          array_sound a size count m s x (values_sound a (pass_item a) one count (drop size s) m (drop_bytes size bytes) p)
+      by h n (array_item size count l x) (flat m u i) = absurd (omega arith)
+      by h n (map_item_lem size count l x) (container {m = m} k p) =
+          map_sound a size count m s x (pairs_sound a (pass_item a) one count (drop size s) m (drop_bytes size bytes) p)
+      by h n (map_item_lem size count l x) (flat m u i) = absurd (omega arith)
 
 pub sound : (a : ℕ) (s : List ℕ) (n : ℕ) → AllBytes s → pass_item a s ≡ whole n → EncodesWithin a (take n s)
 unfolding pass_item

@@ -1,5 +1,5 @@
 -- Bytes encode at most one value, and no encoding is the front of another.
-use Rattle.std.specs.Prelude.{ℕ, ◌+◌, max, List, [], ◌++◌, ◌≡◌, refl, length, take, drop}
+use Rattle.std.specs.Prelude.{ℕ, max, List, [], ◌++◌, ◌≡◌, refl, length, take, drop}
 use Rattle.std.proofs.Common.{append_assoc, append-nil, sym, ap, ◌∙◌, arith, take_at, drop_at}
 use Rattle.std.proofs.Math.Nat.{le-max_left, le-max_right}
 use Rattle.std.proofs.Math.Seq.{drop-append_seam, take-append_seam}
