@@ -18,11 +18,11 @@ item_passed c =
 pub overflow_add-result : goal.overflow_add-result
 overflow_add-result c =
     let a = c.args in
-    let taken = bounded depth_allowed (drop a.at a.part.now) _ (sym (item_passed c)) in
+    let taken = bounded depth_allowed (drop a.at a.part.now) _ (sym (item_passed (goal.at.overflow_add-result c).In-Whole)) in
     omega (arith, taken.some_byte, taken.within, length-drop a.at a.part.now)
 
 pub returns-in-Whole : goal.returns-in-Whole
-returns-in-Whole c = ap (λ (p : Passage). c.args.at + size_of p) (item_passed c)
+returns-in-Whole c = ap (λ (p : Passage). c.args.at + size_of p) (item_passed (goal.at.returns-in-Whole c).In-Whole)
 
 pub returns-in-Cut : goal.returns-in-Cut
 returns-in-Cut c =

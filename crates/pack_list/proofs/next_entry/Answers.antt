@@ -15,23 +15,23 @@ abbrev item_at_lem : Start → List ℕ
 item_at_lem a = drop a.args.at a.args.part.now
 
 -- what passing over the item finds
-item_passed : (c : After-pass_over) → pass_over (item_at_lem c) ≡ passage_of c.pass_over.result
+item_passed : (c : After-pass_over) → pass_over (item_at_lem (goal.at.After-pass_over c).Start) ≡ passage_of c.pass_over.result
 item_passed c = sym (c.pass_over.ensures ∙ ap pass_over c.from.ensures.result_value)
 
-item_passed-2 : (c : In-Whole) → pass_over (item_at_lem c) ≡ passage_of c.pass_over.result
+item_passed-2 : (c : In-Whole) → pass_over (item_at_lem (goal.at.In-Whole c).Start) ≡ passage_of c.pass_over.result
 item_passed-2 c = sym (c.pass_over.ensures ∙ ap pass_over c.from.ensures.result_value)
 
-item_whole : (c : In-Whole) → pass_over (item_at_lem c) ≡ whole c.in-Whole.n
+item_whole : (c : In-Whole) → pass_over (item_at_lem (goal.at.In-Whole c).Start) ≡ whole c.in-Whole.n
 item_whole c = item_passed-2 c ∙ ap passage_of c.in-Whole.is
 
 pub entry_at-requires : goal.entry_at-requires
-entry_at-requires c = record { size = _; is = item_whole c }
+entry_at-requires c = record { size = _; is = item_whole (goal.at.entry_at-requires c).In-Whole }
 
 pub overflow_add-result : goal.overflow_add-result
 overflow_add-result c =
     let k = c in
     let a = k in
-    let taken = bounded depth_allowed (item_at_lem a) _ (item_whole (goal.at.overflow_add-result k).In-Whole) in
+    let taken = bounded depth_allowed (item_at_lem (goal.at.overflow_add-result c).Start) _ (item_whole (goal.at.overflow_add-result k).In-Whole) in
     omega (arith, taken.some_byte, taken.within, length-drop a.args.at a.args.part.now)
 
 pub returns-in-Entry-clause-result_value : goal.returns-in-Entry-clause-result_value
@@ -41,7 +41,7 @@ returns-in-Entry-clause-result_value c =
     let k = d in
     let a = k in
     let told = d.in-Entry.ensures.result_value in
-    let e = told_entry a.args.part.now (item_at_lem a) _ _ told in
+    let e = told_entry a.args.part.now (item_at_lem (goal.at.returns-in-Entry-clause-result_value c).Start) _ _ told in
     rw (item_whole (goal.at.returns-in-Entry-clause-result_value k).In-Whole, e)
 
 pub returns-in-Entry-clause-inside : goal.returns-in-Entry-clause-inside
@@ -52,7 +52,7 @@ returns-in-Entry-clause-inside c =
     let a = k in
     let told = d.in-Entry.ensures.result_value in
     next_inside _ _ _ _ _ (d.entry_at.ensures.inside.here _ _ c.in-Entry.is)
-          (λ x q. (tests_tell a.args.part.now (item_at_lem a) _ _ x told q).blocks)
+          (λ x q. (tests_tell a.args.part.now (item_at_lem (goal.at.returns-in-Entry-clause-inside c).Start) _ _ x told q).blocks)
 
 pub returns-in-Missing-clause-result_value : goal.returns-in-Missing-clause-result_value
 unfolding next_entry
@@ -60,7 +60,7 @@ returns-in-Missing-clause-result_value c =
     let d = c in
     let k = d in
     let a = k in
-    let e = told_none (item_at_lem a) (d.in-Missing.ensures.result_value) in
+    let e = told_none (item_at_lem (goal.at.returns-in-Missing-clause-result_value c).Start) (d.in-Missing.ensures.result_value) in
     rw (item_whole (goal.at.returns-in-Missing-clause-result_value k).In-Whole, e)
 
 pub returns-in-Missing-clause-inside : goal.returns-in-Missing-clause-inside

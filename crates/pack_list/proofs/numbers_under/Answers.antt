@@ -33,61 +33,61 @@ place_of_lem a = a.args.at + a.args.place
 abbrev value_at_lem : Start → List ℕ
 value_at_lem a = drop (place_of_lem a) a.args.part.now
 
-inside : (c : Else-place-eq0) → place_of_lem c ≤ length c.args.part.now
+inside : (c : Else-place-eq0) → place_of_lem (goal.at.Else-place-eq0 c).Start ≤ length c.args.part.now
 inside c = let a = c in omega (arith, a.requires.0, a.requires.1.inside, length-drop a.args.at a.args.part.now)
 
 pub overflow_add-at : goal.overflow_add-at
-overflow_add-at c = omega (arith, inside c)
+overflow_add-at c = omega (arith, inside (goal.at.overflow_add-at c).Else-place-eq0)
 
-array_read : (c : After-read_array) → counted_of c.read_array.result ≡ read_array (value_at_lem c)
+array_read : (c : After-read_array) → counted_of c.read_array.result ≡ read_array (value_at_lem (goal.at.After-read_array c).Start)
 array_read c = c.read_array.ensures.result_value ∙ ap read_array c.from.ensures.result_value
 
-array_read-2 : (c : In-Counted) → counted_of c.read_array.result ≡ read_array (value_at_lem c)
+array_read-2 : (c : In-Counted) → counted_of c.read_array.result ≡ read_array (value_at_lem (goal.at.In-Counted c).Start)
 array_read-2 c = c.read_array.ensures.result_value ∙ ap read_array c.from.ensures.result_value
 
 items_read : (c : In-Counted)
-    → read_array (value_at_lem c)
+    → read_array (value_at_lem (goal.at.In-Counted c).Start)
     ≡ some (counted c.in-Counted.count c.in-Counted.size)
 items_read c = sym (array_read-2 c) ∙ ap counted_of c.in-Counted.is
 
-inside-2 : (c : In-Counted) → place_of_lem c ≤ length c.args.part.now
+inside-2 : (c : In-Counted) → place_of_lem (goal.at.In-Counted c).Start ≤ length c.args.part.now
 inside-2 c = let a = c in omega (arith, a.requires.0, a.requires.1.inside, length-drop a.args.at a.args.part.now)
 
 head_ends : (c : In-Counted)
-    → place_of_lem c + c.in-Counted.size
+    → place_of_lem (goal.at.In-Counted c).Start + c.in-Counted.size
     ≤ length c.args.part.now
 head_ends c =
     let e = c in
     let a = e in
-    omega (arith, inside-2 e, head_inside array_kind _ _ (items_read c), length-drop (place_of_lem a) a.args.part.now)
+    omega (arith, inside-2 e, head_inside array_kind _ _ (items_read c), length-drop (place_of_lem (goal.at.In-Counted c).Start) a.args.part.now)
 
 pub overflow_add-result : goal.overflow_add-result
-overflow_add-result c = omega (arith, head_ends c)
+overflow_add-result c = omega (arith, head_ends (goal.at.overflow_add-result c).In-Counted)
 
 pub overflow_add-result-in-Counted : goal.overflow_add-result-in-Counted
-overflow_add-result-in-Counted c = omega (arith, head_ends c)
+overflow_add-result-in-Counted c = omega (arith, head_ends (goal.at.overflow_add-result-in-Counted c).In-Counted)
 
 pub returns-in-Counted-clause-result_value : goal.returns-in-Counted-clause-result_value
 returns-in-Counted-clause-result_value c =
     let e = c in
     let a = e in
     let r = a.args in
-    array_found r.part.now r.at r.place e.if-place-eq0.false _ (items_read c)
+    array_found r.part.now r.at r.place e.if-place-eq0.false _ (items_read (goal.at.returns-in-Counted-clause-result_value c).In-Counted)
 
 pub returns-in-Counted-clause-inside : goal.returns-in-Counted-clause-inside
 returns-in-Counted-clause-inside c =
     let e = c in
     let a = e in
     let r = a.args in
-    let whole = array_found_whole r.part.now r.at r.place e.if-place-eq0.false _ (items_read c) (a.requires.1.whole e.if-place-eq0.false) in
-    numbers_inside _ _ (head_ends c) whole
+    let whole = array_found_whole r.part.now r.at r.place e.if-place-eq0.false _ (items_read (goal.at.returns-in-Counted-clause-inside c).In-Counted) (a.requires.1.whole e.if-place-eq0.false) in
+    numbers_inside _ _ (head_ends (goal.at.returns-in-Counted-clause-inside c).In-Counted) whole
 
 pub returns-in-Counted-clause-place : goal.returns-in-Counted-clause-place
 returns-in-Counted-clause-place c =
     let e = c in
     let a = e in
     let r = a.args in
-    array_placed r.part.now r.at r.place e.if-place-eq0.false _ (items_read c)
+    array_placed r.part.now r.at r.place e.if-place-eq0.false _ (items_read (goal.at.returns-in-Counted-clause-place c).In-Counted)
 
 pub returns-in-Missing-clause-result_value : goal.returns-in-Missing-clause-result_value
 returns-in-Missing-clause-result_value c =

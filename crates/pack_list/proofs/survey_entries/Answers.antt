@@ -16,16 +16,17 @@ pub returns-in_default : goal.returns-in_default
 returns-in_default c =
     let r = c in
     let l = r.loop-k in
-    entry_missing _ _ _ l.at l.k l.all l.holder l.invariant (omega arith) (r.in_default.ensures.result_value)
+    let e = entry_missing _ _ _ l.at l.k l.all l.holder l.invariant (omega arith) r.in_default.ensures.result_value in
+    record { result_value = e.0; inside = e.1 }
 
 pub overflow_add-at : goal.overflow_add-at
 overflow_add-at c =
     let r = c in
-    let e = c.e-1.given in
+    let e = c.in-Entry in
     let l = r.loop-k in
-    let told = sym (ap (told_in _) e.1) ∙ r.entry_at.ensures.result_value in
-    let there = (r.entry_at.ensures.inside.here _ _ e.1).there in
-    omega (arith, entry_ends _ _ _ l.at l.k l.all l.holder l.invariant (omega arith) e.0.0 e.0.1.0 told there)
+    let told = e.ensures.result_value in
+    let there = (e.ensures.inside.here _ _ refl).there in
+    omega (arith, entry_ends _ _ _ l.at l.k l.all l.holder l.invariant (omega arith) e.e e.t told there)
 
 pub overflow_add-k : goal.overflow_add-k
 overflow_add-k c = omega arith
@@ -36,12 +37,15 @@ loop-k-smaller c = omega arith
 pub loop-k-preserved : goal.loop-k-preserved
 loop-k-preserved c =
     let r = c in
-    let e = c.e-1.given in
+    let e = c.in-Entry in
     let l = r.loop-k in
-    let told = sym (ap (told_in _) e.1) ∙ r.entry_at.ensures.result_value in
-    let here = r.entry_at.ensures.inside.here _ _ e.1 in
-    one_surveyed _ _ _ l.at l.k l.all l.holder l.invariant (omega arith) e.0.0 e.0.1.0 told here _
+    let told = e.ensures.result_value in
+    let here = e.ensures.inside.here _ _ refl in
+    one_surveyed _ _ _ l.at l.k l.all l.holder l.invariant (omega arith) e.e e.t told here _
     c.with_entry-all.ensures _ (c.with_holder-holder.ensures ∙ rw c.holds.ensures) _ refl
 
 pub returns : goal.returns
-returns c = let l = c.loop-k in surveyed_all _ _ _ l.at l.k l.all l.holder l.invariant (omega arith)
+returns c =
+    let l = c.loop-k in
+    let e = surveyed_all _ _ _ l.at l.k l.all l.holder l.invariant (omega arith) in
+    record { result_value = e.0; inside = e.1 }

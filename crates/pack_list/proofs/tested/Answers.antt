@@ -26,7 +26,7 @@ abbrev lengths_at : Start → Option (List ℕ)
 lengths_at a = each_of read_natural (items_in a.args.part.now a.args.e.lengths)
 
 lengths_told : (c : In-Natural)
-    → WithinTold (lengths_at c)
+    → WithinTold (lengths_at (goal.at.In-Natural c).Start)
     c.args.e.stored.len c.in-Natural.within
     c.in-Natural.rest
 lengths_told c =
