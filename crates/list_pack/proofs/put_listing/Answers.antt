@@ -1,11 +1,10 @@
 -- `list_pack::put_listing` meets its contract. Each arm puts the text of the reading; the arm of a list that is too short is never reached.
 use mathlib.Core.Path.{sym, ap, ◌∙◌}
-use native.Mathlib.Omega.{arith}
 use Prim.Native.Nat.{ℕ}
 use Rattle.refusals.specs.Limit.{pack_limit}
 use Rattle.pack.specs.Reading.{refused, reading}
 use Rattle.pack.specs.Scan.{scanned_of}
-use Rattle.list_pack.proofs.Answers.{Filled, filled, refusal, never_short, length_list, listing_put, refusal_put}
+use Rattle.list_pack.proofs.Answers.{Filled, filled, refusal, never_short, listing_put, refusal_put}
 use Rattle.list_pack.proofs.put_listing.Goals as goal
 use Rattle.list_pack.proofs.put_listing.Goals.{In-Filled}
 
@@ -13,16 +12,10 @@ use Rattle.list_pack.proofs.put_listing.Goals.{In-Filled}
 is_filled_lem : (c : In-Filled) → Filled (reading pack_limit c.args.pack.now) c.in-Filled.n
 is_filled_lem c = filled _ _ (ap scanned_of (sym c.in-Filled.is) ∙ c.scan_all-listing.ensures.0)
 
-pub put_lines-at-requires : goal.put_lines-at-requires
-put_lines-at-requires c =
-    let b = c in
-    let f = is_filled_lem (goal.at.put_lines-at-requires c).In-Filled in
-    ((f.few, rw c.scan_all-listing.ensures.1 (length_list _ _ f)), omega (arith, b.requires.1))
-
 pub returns-in-Filled : goal.returns-in-Filled
 returns-in-Filled c =
     let p = c.put_lines-at.ensures in
-    listing_put _ _ (is_filled_lem (goal.at.returns-in-Filled c).In-Filled) c.requires.1 p.1 (rw c.scan_all-listing.ensures.1 at p.0) c.put_lines-at.auto.0 c.put_count.ensures
+    listing_put _ _ (is_filled_lem (goal.at.returns-in-Filled c).In-Filled) c.requires.1 p.1 (rw c.scan_all-listing.ensures.1 at p.0) c.put_lines-at.auto.out c.put_count.ensures
 
 pub returns-in-TooLong : goal.returns-in-TooLong
 returns-in-TooLong c =
@@ -39,5 +32,4 @@ returns-in-Fault c =
 
 pub returns-in-Short : goal.returns-in-Short
 returns-in-Short c =
-    let b = c in
-    absurd (never_short b.args.pack.now (record { below = λ k. (c.type_inv.pack k).fits }) b.requires.0 (ap scanned_of (sym c.in-Short.is) ∙ c.scan_all-listing.ensures.0))
+    absurd (never_short c.args.pack.now (record { below = λ k. (c.type_inv.pack k).fits }) c.requires.0 (ap scanned_of (sym c.in-Short.is) ∙ c.scan_all-listing.ensures.0))
