@@ -1,5 +1,5 @@
 -- Texts as lists of bytes: a byte looked for, two texts compared.
-use Rattle.std.specs.Prelude.{ℕ, suc, ◌+◌, ◌-◌, ◌<◌, ◌≤◌, ◌≡◌, refl, Bool, true, false, cond, ◌&&◌, ◌||◌, List, [], ◌∷◌, ◌++◌, eqb, ltb, length, get_or, take, drop}
+use Rattle.std.specs.Prelude.{ℕ, suc, ◌<◌, ◌≤◌, ◌≡◌, refl, Bool, true, false, cond, ◌&&◌, ◌||◌, List, [], ◌∷◌, ◌++◌, eqb, ltb, length, get_or, take, drop}
 use Rattle.std.proofs.Common.{suc-le-suc, sym, ap, true≢false, le_refl, not-suc-le-zero, le_of_suc-le-suc, arith, eqb-true, eq-eqb}
 
 -- x stands in the text

@@ -1,5 +1,5 @@
 -- Heads: the one at the front of a list, by its first byte's format; how large it can be; and the one at a place.
-use Prim.Native.Nat.{ℕ, suc, ◌+◌, ◌-◌, ◌≤◌, ◌<◌}
+use Prim.Native.Nat.{ℕ, ◌+◌, ◌-◌, ◌≤◌, ◌<◌}
 use mathlib.Core.List.{List, [], ◌∷◌}
 use mathlib.Core.Option.{none, some}
 use mathlib.Core.Path.{◌≡◌, refl, sym, ap, ◌∙◌}
@@ -98,11 +98,3 @@ module _ (b : ℕ) where
   pub negative : 0xe0 ≤ b → format integer_kind 0 0 ≡ format_of b
   unfolding format_of
   negative l = rw (le-ltb b 0x80 (omega arith), le-ltb b 0x90 (omega arith), le-ltb b 0xa0 (omega arith), le-ltb b 0xc0 (omega arith), le-ltb b 0xe0 l)
-
--- ---- a first byte that none of the bytes before it is
-
-pub above : (b k : ℕ) → k ≤ b → (b ≡ k → ⊥) → suc k ≤ b
-above b k h n = omega arith
-
-pub last : (b : ℕ) → 0xdf ≤ b → b < 0xe0 → b ≡ 0xdf
-last b h l = omega arith

@@ -1,21 +1,21 @@
 -- The pairs of a map one after the other: what passing over them gives, and what is told of the keys asked for.
 use Prim.Native.Nat.{ℕ, zero, suc, ◌+◌, ◌-◌, ◌≤◌, ◌<◌}
-use mathlib.Core.Bool.{Bool, true, false, cond, ◌&&◌, ◌||◌, true≢false}
+use mathlib.Core.Bool.{Bool, true, false, cond, ◌&&◌, ◌||◌}
 use mathlib.Core.List.{List}
 use mathlib.Core.Path.{◌≡◌, refl, sym, ap, ◌∙◌}
 use native.Mathlib.Nat.{not-suc-le-zero, zero-add, add-zero, add_assoc}
 use native.Mathlib.Numerals.{sub-one}
 use native.Mathlib.Omega.{arith}
-use borrow.Author.Tests.{eq-eqb, ne_eqb, lt-ltb, le-ltb, ltb-true}
+use borrow.Author.Tests.{eq-eqb, ne_eqb, lt-ltb, le-ltb}
 use lib.Dec.{ltb, eqb}
 use lib.ListN.{length, drop, get_or, replicate, get_or-replicate}
 use lib.Seq.{drop-drop}
 use Rattle.slices.specs.Bytes.{AllBytes, drop_bytes}
 use Rattle.slices.specs.Logic.{absurd_numbers, clash}
 use Rattle.msgpack.specs.Formats.{map_kind}
-use Rattle.msgpack.specs.Items.{Head, Passage, whole, cut, too_deep, passage_of, head_of, beyond, pass_items, pass_item, depth_allowed, pass_over}
-use Rattle.msgpack.specs.Lookup.{ValuePlace, found, missing, broken, if_whole, key_at, last_where, last_value}
-use Rattle.msgpack.specs.Pairs.{code_of, code_at, position, PairPassage, whole_pair, cut_pair, deep_pair, if_passed, inside_allowed, pair_at, if_counted, times_where, times_of, is_repeated, is_whole_passage, keys_asked, Asked, place_told, place_in, PairsRead, Sized, WithValue, NoPairs, is_asked, PairsFrom}
+use Rattle.msgpack.specs.Items.{Head, Passage, whole, cut, too_deep, passage_of, head_of, beyond, pass_items, pass_item, pass_over}
+use Rattle.msgpack.specs.Lookup.{ValuePlace, found, missing, broken, if_whole, last_where, last_value}
+use Rattle.msgpack.specs.Pairs.{code_of, code_at, position, PairPassage, whole_pair, cut_pair, deep_pair, if_passed, inside_allowed, pair_at, times_where, times_of, is_repeated, is_whole_passage, keys_asked, Asked, place_told, place_in, PairsRead, Sized, WithValue, NoPairs, is_asked, PairsFrom}
 use Rattle.msgpack.specs.declared.Values.{Values}
 use Rattle.msgpack.specs.declared.Pairs.{Pairs}
 use Rattle.msgpack.specs.PassingLaws.{map_passed, Beyond, beyond_whole, pair_joined, Deeper, deeper}

@@ -1,10 +1,10 @@
 -- What follows a whole item plays no part: a front of the list that holds the item has the same item, and a map the same values under its keys.
 use Prim.Native.Nat.{ℕ, zero, suc, ◌+◌, ◌-◌, ◌≤◌, ◌<◌}
-use Rattle.std.specs.Prelude.{Bool, cond, ◌&&◌, List, [], ◌∷◌, ◌≡◌, leb, eqb, length, take, drop}
+use Rattle.std.specs.Prelude.{Bool, cond, ◌&&◌, List, [], ◌∷◌, ◌≡◌, eqb, length, take, drop}
 use Rattle.std.proofs.Math.Bool.{true, false}
 use Rattle.std.proofs.Math.Option.{Option, none, some}
 use Rattle.std.proofs.Math.Path.{refl}
-use Rattle.std.proofs.Common.{sym, ap, ◌∙◌, arith, length-drop, drop-drop}
+use Rattle.std.proofs.Common.{sym, ap, ◌∙◌, arith, length-drop}
 use Rattle.std.proofs.Math.Numerals.{unary_clauses}
 use borrow.Author.Tests.{le-leb, ne_eqb, eqb-true}
 use Rattle.std.proofs.Math.Seq.{take-nil, length-take-le}
@@ -13,11 +13,10 @@ use Rattle.slices.specs.Lists.{part_of_front}
 use Rattle.endian.specs.Numbers.{big}
 use Rattle.endian.specs.Places.{holds, number_at}
 use Rattle.msgpack.specs.Formats.{unused_kind, text_kind, array_kind, map_kind, width_of, format_of}
-use Rattle.msgpack.specs.Items.{Head, Passage, whole, too_deep, head_by, head_of, items_of, beyond, pass_items, pass_item, depth_allowed, pass_over}
+use Rattle.msgpack.specs.Items.{Passage, whole, too_deep, head_by, head_of, items_of, beyond, pass_items, pass_item, depth_allowed, pass_over}
 use Rattle.msgpack.specs.Readers.{is_whole, part, content_at}
-use Rattle.msgpack.specs.Lookup.{ValuePlace, found, missing, broken, content_is, key_at, last_where, last_value}
+use Rattle.msgpack.specs.Lookup.{ValuePlace, missing, broken, content_is, key_at, last_where, last_value}
 use Rattle.msgpack.specs.Pairs.{inside_allowed, times_where, times_of}
-use Rattle.msgpack.specs.HeadLaws.{number_read}
 use Rattle.msgpack.specs.PassingLaws.{head_within, flat_whole, within_container, map_passed, Beyond, beyond_whole, joined, pair_joined, Whole, container, flat, head_whole, bounded, deeper}
 
 -- what a front leaves, once k elements are passed

@@ -1,5 +1,5 @@
 -- What one pass over a whole item tells its callers: of each key asked for the place of its last value, by what `last_value` finds.
-use Rattle.std.specs.Prelude.{ℕ, zero, suc, ◌≤◌, ◌<◌, true, false, List, [], ◌∷◌, ◌≡◌, refl, length, drop, get_or}
+use Rattle.std.specs.Prelude.{ℕ, zero, suc, ◌≤◌, ◌<◌, true, false, List, [], ◌∷◌, ◌≡◌, refl, length, get_or}
 use Rattle.std.proofs.Common.{sym, ap, ◌∙◌, arith}
 use Rattle.slices.specs.Bytes.{none_bytes, cons_bytes}
 use Rattle.msgpack.specs.Items.{whole, pass_over}

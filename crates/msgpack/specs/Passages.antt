@@ -5,7 +5,7 @@ use Rattle.std.proofs.Math.Path.{refl}
 use Rattle.std.proofs.Common.{ap, ◌∙◌, not-suc-le-zero, add_assoc, sub-one, arith, length-drop, drop-drop}
 use Rattle.slices.specs.Logic.{absurd_numbers}
 use Rattle.msgpack.specs.Formats.{unused_kind, array_kind}
-use Rattle.msgpack.specs.Items.{Head, Passage, whole, cut, too_deep, head_of, HeadAt, items_of, beyond, and_then, pass_items, pass_item}
+use Rattle.msgpack.specs.Items.{Head, Passage, whole, cut, too_deep, head_of, items_of, beyond, and_then, pass_items, pass_item}
 use Rattle.msgpack.specs.PassingLaws.{head_within, within_container, beyond_whole, bounded}
 
 beyond_beyond : (a b : ℕ) (r : Passage) → beyond a (beyond b r) ≡ beyond (a + b) r

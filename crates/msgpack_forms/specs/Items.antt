@@ -7,7 +7,6 @@ use Rattle.msgpack.specs.Items.{Passage, whole, cut, too_deep, head_of, pass_ite
 use Rattle.msgpack.specs.Readers.{Int, plus, minus, read_integer}
 use Rattle.msgpack.specs.Short.{is_short}
 use Rattle.msgpack_forms.specs.declared.Form as declared
-use Rattle.msgpack_forms.specs.declared.Item as declared-item
 use Rattle.msgpack_forms.specs.declared.Front as front
 use Rattle.msgpack_forms.specs.declared.Front.TheVariants as front-answer
 

@@ -1,11 +1,11 @@
 -- Laws of passing over an item whose forms are all short: how it goes on, that the item is whole by `pass_item` too, and that it lies inside.
-use Prim.Native.Nat.{ℕ, zero, suc, ◌+◌, ◌≤◌, ◌<◌}
-use Rattle.std.specs.Prelude.{Bool, true, false, cond, List, ◌≡◌, refl, length, drop}
+use Prim.Native.Nat.{ℕ, zero, suc, ◌≤◌, ◌<◌}
+use Rattle.std.specs.Prelude.{Bool, true, false, cond, List, ◌≡◌, refl, drop}
 use Rattle.std.proofs.Common.{sym, ap, ◌∙◌, arith}
 use borrow.Author.Tests.{le-leb, lt-leb}
 use Rattle.slices.specs.Logic.{absurd_numbers}
 use Rattle.msgpack.specs.Formats.{unused_kind, array_kind}
-use Rattle.msgpack.specs.Items.{Head, Passage, whole, cut, too_deep, head_of, items_of, beyond, pass_items, pass_head, pass_item, depth_allowed, pass_over}
+use Rattle.msgpack.specs.Items.{Passage, whole, cut, too_deep, head_of, items_of, beyond, pass_items, pass_head, pass_item, depth_allowed}
 use Rattle.msgpack.specs.PassingLaws.{unused, flat_whole, within_container, Whole, container, flat, head_whole, Deeper, items_deeper}
 use Rattle.msgpack_forms.specs.Items.{form_at, short_item, is_whole_passage, all_short}
 

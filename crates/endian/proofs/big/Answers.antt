@@ -1,7 +1,7 @@
 -- `endian::big` meets its contract. The invariant: n is the number of the first i bytes. It stays below 256 ^ i, so that one byte more fits.
 use borrow.Author.Rules.{rules}
 use mathlib.Core.Path.{◌≡◌, refl}
-use Prim.Native.Nat.{◌+◌, ◌-◌, ◌*◌, ◌^◌, ◌<◌}
+use Prim.Native.Nat.{◌+◌, ◌*◌, ◌^◌, ◌<◌}
 use lib.ListN.{get_or, take, drop}
 use native.Mathlib.Omega.{arith}
 use Rattle.endian.specs.Numbers.{big, little, big_lt}

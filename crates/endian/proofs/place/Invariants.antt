@@ -1,6 +1,6 @@
 -- `endian::place` meets its contract. The invariant: what is left to write, written into the buffer as it is now, gives the whole result.
 use mathlib.Core.Path.{◌≡◌}
-use Prim.Native.Nat.{◌-◌, ◌≤◌}
+use Prim.Native.Nat.{◌≤◌}
 use lib.ListN.{length}
 use Rattle.slices.specs.Overwriting.{overwritten}
 use Rattle.endian.specs.Numbers.{big_bytes}

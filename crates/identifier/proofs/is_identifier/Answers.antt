@@ -1,6 +1,5 @@
 -- The three tests are those of the definition.
 use Rattle.identifier.specs.Identity.{is_valid}
-use borrow.Author.Tests.{not-true, not-false}
 use mathlib.Core.Path.{sym, ◌∙◌}
 use Rattle.identifier.proofs.is_identifier.Goals as goal
 

@@ -1,17 +1,11 @@
 -- Every byte passed is a character, so the rest and the first byte decide.
 use Rattle.identifier.specs.Ulid.{is_character, is_ulid}
 use Rattle.identifier.proofs.Loops.{all_fails, all_later, all_end}
-use borrow.Author.Tests.{eq-eqb, ne_eqb, not-true, not-false}
-use lib.Dec.{leb}
-use lib.ListN.{get_or}
+use borrow.Author.Tests.{eq-eqb, ne_eqb}
 use native.Mathlib.Omega.{arith}
 use mathlib.Core.Path.{sym, ap, ◌∙◌}
-use mathlib.Core.Bool.{Bool, ◌&&◌}
-use mathlib.Core.List.{List}
-use Prim.Native.Nat.{ℕ, ◌-◌}
 use Rattle.identifier.proofs.is_ulid.Invariants.{with_first}
 use Rattle.identifier.proofs.is_ulid.Goals as goal
-
 
 pub returns-then-s-ne26 : goal.returns-then-s-ne26
 unfolding is_ulid

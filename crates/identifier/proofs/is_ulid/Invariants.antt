@@ -2,12 +2,8 @@
 use Prim.Native.Nat.{ℕ, ◌-◌}
 use mathlib.Core.List.{List}
 use mathlib.Core.Bool.{Bool, ◌&&◌}
-use mathlib.Core.Path.{sym, ap, ◌∙◌}
-use native.Mathlib.Omega.{arith}
 use lib.ListN.{get_or}
 use lib.Dec.{leb}
-use borrow.Author.Tests.{eq-eqb, ne_eqb, not-true, not-false}
-use Rattle.identifier.proofs.Loops.{all_fails, all_later, all_end}
 use Rattle.identifier.specs.Ulid.{is_character, is_ulid}
 use Rattle.identifier.specs.Texts.{all}
 use lib.ListN.{length, drop}

@@ -2,7 +2,6 @@
 use Rattle.identifier.proofs.Loops.{less_differs, less_later, less_short, less_left}
 use native.Mathlib.Omega.{arith}
 use mathlib.Core.Path.{sym, ◌∙◌}
-use Prim.Native.Nat.{◌-◌}
 use Rattle.identifier.proofs.less_bytes.Goals as goal
 
 pub returns-then-b-i : goal.returns-then-b-i

@@ -1,6 +1,5 @@
 -- `slices::copy` meets its contract. The invariant: the first i bytes have been pasted.
 use mathlib.Core.Path.{◌≡◌}
-use Prim.Native.Nat.{◌-◌}
 use native.Mathlib.Omega.{arith}
 use lib.ListN.{length}
 use lib.Seq.{paste-zero, paste-suc, length-paste, take-length}

@@ -1,6 +1,5 @@
 -- `slices::same_bytes` meets its contract: the whole is what the rest from here is.
 use borrow.Author.Tests.{eq-eqb, ne_eqb}
-use Prim.Native.Nat.{◌-◌}
 use mathlib.Core.Path.{sym, ◌∙◌}
 use native.Mathlib.Omega.{arith}
 use Rattle.slices.proofs.Comparisons.{other_length, next_byte, at_end}

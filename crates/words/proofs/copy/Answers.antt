@@ -1,7 +1,7 @@
 -- `words::copy` meets its contract. The invariant: the first i words have been pasted.
 use borrow.Author.Rules.{scaled_Fits}
 use mathlib.Core.Path.{◌≡◌}
-use Prim.Native.Nat.{◌+◌, ◌-◌}
+use Prim.Native.Nat.{◌+◌}
 use native.Mathlib.Omega.{arith}
 use lib.ListN.{length}
 use lib.Seq.{paste-zero, paste-suc, length-paste, take-length}

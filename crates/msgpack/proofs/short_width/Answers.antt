@@ -1,0 +1,39 @@
+-- `msgpack::short_width` meets its contract: the tests are the definition's.
+use mathlib.Core.Path.{sym, ◌∙◌}
+use borrow.Author.Tests.{lt-ltb, le-ltb}
+use Rattle.msgpack.specs.Short.{fits_in, short_width}
+use Rattle.msgpack.proofs.short_width.Goals as goal
+
+pub returns-then-fixed_holds : goal.returns-then-fixed_holds
+unfolding short_width
+returns-then-fixed_holds c = rw (sym c.fixed_holds.ensures ∙ c.if-fixed_holds.true)
+
+pub returns-then-kind-lt-ARRAY : goal.returns-then-kind-lt-ARRAY
+unfolding short_width fits_in
+returns-then-kind-lt-ARRAY c =
+    let b = c in
+    rw (sym b.fixed_holds.ensures ∙ b.if-fixed_holds.false, lt-ltb _ _ c.if-n-lt256.true, lt-ltb _ _ c.if-kind-lt-ARRAY.true)
+
+pub returns-else-kind-lt-ARRAY : goal.returns-else-kind-lt-ARRAY
+unfolding short_width fits_in
+returns-else-kind-lt-ARRAY c =
+    let b = c in
+    rw (sym b.fixed_holds.ensures ∙ b.if-fixed_holds.false, lt-ltb _ _ c.if-n-lt256.true, le-ltb _ _ c.if-kind-lt-ARRAY.false)
+
+pub returns-then-n-lt65536 : goal.returns-then-n-lt65536
+unfolding short_width fits_in
+returns-then-n-lt65536 c =
+    let b = c in
+    rw (sym b.fixed_holds.ensures ∙ b.if-fixed_holds.false, le-ltb _ _ c.if-n-lt256.false, lt-ltb _ _ c.if-n-lt65536.true)
+
+pub returns-then-n-lt4294967296 : goal.returns-then-n-lt4294967296
+unfolding short_width fits_in
+returns-then-n-lt4294967296 c =
+    let b = c in
+    rw (sym b.fixed_holds.ensures ∙ b.if-fixed_holds.false, le-ltb _ _ c.if-n-lt256.false, le-ltb _ _ c.if-n-lt65536.false, lt-ltb _ _ c.if-n-lt4294967296.true)
+
+pub returns-else-n-lt4294967296 : goal.returns-else-n-lt4294967296
+unfolding short_width fits_in
+returns-else-n-lt4294967296 c =
+    let b = c in
+    rw (sym b.fixed_holds.ensures ∙ b.if-fixed_holds.false, le-ltb _ _ c.if-n-lt256.false, le-ltb _ _ c.if-n-lt65536.false, le-ltb _ _ c.if-n-lt4294967296.false)

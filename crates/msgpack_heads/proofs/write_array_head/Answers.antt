@@ -1,0 +1,16 @@
+-- `msgpack_heads::write_array_head` meets its contract: the form is the shortest, and small.
+use native.Mathlib.Omega.{arith}
+use Rattle.msgpack_heads.specs.Heads.{form_read}
+use Rattle.msgpack_heads.proofs.Forms.{chosen_small, chosen_written, container_small}
+use Rattle.msgpack_heads.proofs.write_array_head.Goals as goal
+
+pub put-requires : goal.put-requires
+put-requires c = chosen_small (form_read c.container_form.result) _ c.container_form.ensures (container_small 0x90 0xdc c.args.n (omega arith) (omega arith))
+
+pub returns : goal.returns
+returns c =
+    let f = c.container_form in
+    let p = c.put.ensures in
+    let a = c.args in
+    let w = chosen_written (form_read f.result) _ f.ensures a.out.now a.at a.n _ _ p.result_value p.out_after in
+    record { result_value = w.0; out_after = w.1 }
