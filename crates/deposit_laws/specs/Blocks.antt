@@ -12,10 +12,11 @@ use Rattle.msgpack.specs.Views.{text_at, byte_view, repeats, SameUnder, both_fou
 use Rattle.msgpack_forms.specs.Items.{all_short}
 use Rattle.msgpack_model.specs.Values.{Value, Nil, Boolean, Integer, Float, Text, Binary, Extension, Array, Map, Values, no_values_lem, value, Pairs, no_pairs, pair, depth, as_text, as_integer, as_binary, as_array, as_map}
 use Rattle.msgpack_model.specs.Encoding.{Encodes, scalar, map, text, next_pair}
-use Rattle.msgpack_model.specs.Readers.{scalar_no_map}
-use Rattle.msgpack_model.specs.Short.{short_once}
-use Rattle.msgpack_model.specs.Sound.{sound}
-use Rattle.msgpack_model.specs.Views.{Shows, list_of, value_view, bytes_alike, keys_alike}
+use Rattle.msgpack_model.proofs.Readers.{scalar_no_map}
+use Rattle.msgpack_model.proofs.Short.{short_once}
+use Rattle.msgpack_model.proofs.Sound.{sound}
+use Rattle.msgpack_model.specs.Views.{Shows, list_of, value_view}
+use Rattle.msgpack_model.proofs.Views.{bytes_alike, keys_alike}
 use Rattle.identifier.specs.Identity.{Identity, is_valid}
 use Rattle.identifier.specs.Composite.{composite_text, identity_in, reads_text}
 use Rattle.value.specs.Fields.{natural_under, is_there, at_least_zero}

@@ -10,8 +10,9 @@ use Rattle.msgpack.specs.Pairs.{inside_allowed, pair_at}
 use Rattle.msgpack.specs.Views.{text_at, byte_view}
 use Rattle.msgpack_model.specs.Values.{Value, Pairs, no_pairs, pair, count_pairs, depth, pairs_depth, as_text, as_map}
 use Rattle.msgpack_model.specs.Encoding.{Encodes, scalar, array, map, EncodesPairs, no_pair, next_pair}
-use Rattle.msgpack_model.specs.Complete.{complete}
-use Rattle.msgpack_model.specs.Readers.{text_reads, scalar_no_map, MapRead, is_map, no_map, map_reads}
+use Rattle.msgpack_model.proofs.Complete.{complete}
+use Rattle.msgpack_model.specs.Readers.{MapRead, is_map, no_map}
+use Rattle.msgpack_model.proofs.Readers.{text_reads, scalar_no_map, map_reads}
 use Rattle.msgpack_model.specs.Views.{Shows}
 use Rattle.deposit_rules.specs.Keys.{Key, keys_from, keys_by, keys_of}
 use Rattle.deposit_rules.specs.Blocks.{under_whole}

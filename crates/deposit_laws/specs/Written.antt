@@ -16,7 +16,8 @@ use Rattle.msgpack_forms.specs.Items.{all_short}
 use Rattle.msgpack_model.specs.Values.{Value, Text, Integer, Array, Map, no_values_lem, value, no_pairs, pair}
 use Rattle.msgpack_model.specs.Encoding.{Encodes}
 use Rattle.msgpack_model.specs.Bytes.{encoding_bytes}
-use Rattle.msgpack_model.specs.Views.{Shows, shown, bytes_alike, keys_alike}
+use Rattle.msgpack_model.specs.Views.{Shows, shown}
+use Rattle.msgpack_model.proofs.Views.{bytes_alike, keys_alike}
 use Rattle.identifier.specs.Identity.{Identity, is_valid}
 use Rattle.identifier.specs.Composite.{composite_text}
 use Rattle.identifier.specs.Ulid.{is_ulid}

@@ -1,7 +1,7 @@
 -- The head of every encoding is what the table of formats says of its first byte, whatever follows; so a scalar's kind and content are known from its bytes.
 use Rattle.std.specs.Prelude.{ℕ, zero, suc, ◌+◌, ◌-◌, ◌^◌, ◌≤◌, ◌<◌, true, false, cond, List, [], ◌∷◌, ◌++◌, ◌≡◌, refl, eqb, length, get_or, drop}
 use Rattle.std.proofs.Math.Option.{some}
-use Rattle.std.proofs.Common.{sym, ap, ◌∙◌, pow-suc, not-suc-le-zero, arith, lt-ltb, le-ltb, length-append, take_at}
+use Rattle.std.proofs.Common.{ap, ◌∙◌, pow-suc, not-suc-le-zero, arith, lt-ltb, le-ltb, length-append, take_at}
 use Rattle.slices.specs.Tables.{agree}
 use Rattle.endian.specs.Numbers.{little, big}
 use Rattle.endian.specs.Places.{number_at, number_there}
@@ -177,8 +177,3 @@ scalar_flat (float64 {e = e} l o) = behind (Float e) float_kind 0xcb 8 e refl l 
 scalar_flat (text {h = h} {e = e} x o) = flat (Text e) text_kind h e (text_begins x) (omega arith) (omega arith) refl
 scalar_flat (binary {h = h} {e = e} x o) = flat (Binary e) binary_kind h e (binary_begins x) (omega arith) (omega arith) refl
 scalar_flat (extension {h = h} {t = t} {e = e} x k o) = flat (Extension t e) extension_kind h (t ∷ e) (extension_begins x) (omega arith) (omega arith) refl
-
--- what computes alike at every kind of scalar
-pub of_scalar : {A : Type 0} (f : Value → A) (a : A)
-    → ((b : ℕ) (body : List ℕ) (kind : ℕ) → kind < array_kind → f (scalar_of kind b body) ≡ a) → {v : Value} {e : List ℕ} → Scalar v e → f v ≡ a
-of_scalar f a all x = let s = scalar_flat x in ap f (sym s.is) ∙ all (get_or s.top 0 0) s.body s.kind s.holds_none

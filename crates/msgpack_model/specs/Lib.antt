@@ -1,7 +1,6 @@
 pub mod Values
 pub mod Encoding
 pub mod Heads
-pub mod Complete
 pub mod Rows
 pub mod Sound
 pub mod Deep

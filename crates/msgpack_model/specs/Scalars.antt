@@ -1,16 +1,14 @@
 -- The scalar that stands at the front of a list, from its head: what an encoding's value is, and that it is encoded there.
-use Rattle.std.specs.Prelude.{ℕ, ◌+◌, ◌≤◌, ◌<◌, List, [], ◌++◌, ◌≡◌, refl, length, get_or, take, drop}
-use Rattle.std.proofs.Common.{append_assoc, sym, ap, ◌∙◌, not-suc-le-zero, arith, length-append, take-append-drop}
+use Rattle.std.specs.Prelude.{ℕ, ◌+◌, ◌≤◌, ◌<◌, List, [], ◌++◌, ◌≡◌, length, get_or, take, drop}
+use Rattle.std.proofs.Common.{append_assoc, ap, ◌∙◌, arith, length-append}
 use Rattle.std.proofs.Math.ListN.{get_or-append}
 use Rattle.std.proofs.Math.Seq.{drop-append_seam, take-append_seam}
-use Rattle.slices.specs.Bytes.{AllBytes}
 use Rattle.msgpack.specs.Formats.{unused_kind, array_kind}
-use Rattle.msgpack.specs.Items.{Head, whole, head, head_of, pass_item}
-use Rattle.msgpack.specs.PassingLaws.{head_within, flat_whole}
-use Rattle.msgpack_model.specs.Values.{Value, depth}
-use Rattle.msgpack_model.specs.Encoding.{Encodes, scalar, array, map}
-use Rattle.msgpack_model.specs.Heads.{Begins, scalar_of, Flat, scalar_flat}
-use Rattle.msgpack_model.specs.Sound.{sound}
+use Rattle.msgpack.specs.Items.{Head, head, head_of}
+use Rattle.msgpack.specs.PassingLaws.{head_within}
+use Rattle.msgpack_model.specs.Values.{Value}
+use Rattle.msgpack_model.specs.Encoding.{Encodes}
+use Rattle.msgpack_model.specs.Heads.{Begins, scalar_of, Flat}
 
 -- the content that the head asks for, and the scalar that it makes
 abbrev pub content_of : List ℕ → List ℕ
@@ -63,19 +61,3 @@ pub record There (s : List ℕ) (v : Value) : Type 0 where
   pub size : ℕ
   pub within : size ≤ length s
   pub encoded : Encodes v (take size s)
-
-flat_there : (s : List ℕ) (n : ℕ) (v : Value) (e : List ℕ) → e ≡ take n s → n ≤ length s → depth v ≤ 0 → Encodes v e → There s (scalar_at s)
-flat_there s n v e q l d (scalar x) =
-    let whole_list : e ++ drop n s ≡ s = ap (λ r. r ++ drop n s) q ∙ take-append-drop n s in
-    let is : scalar_at s ≡ v = rw whole_list at (flat_value (scalar_flat x) (drop n s)) in
-    record { size = n; within = l; encoded = rw (is, ← q) (scalar x) }
-flat_there s n v e q l d (array x xs) = absurd (not-suc-le-zero d)
-flat_there s n v e q l d (map x xs) = absurd (not-suc-le-zero d)
-
-pub scalar_there : (s : List ℕ) → AllBytes s → ScalarFront s → There s (scalar_at s)
-scalar_there s bytes f =
-    let n : ℕ = (head_of s).size + (head_of s).count in
-    let p : pass_item 0 s ≡ whole n
-    = sym (flat_whole 0 s (head_of s) refl f.holds_none (λ (u : (head_of s).kind ≡ unused_kind). omega (arith, f.some_kind)) f.fits) in
-    let x = sound 0 s n bytes p in
-    flat_there s n x.value (take n s) refl f.fits x.shallow x.encoded

@@ -1,17 +1,17 @@
 -- The short form row by row of the table: each row either is the one that the writer takes, or is longer, or is a signed form of an integer of at least 0.
-use Rattle.std.specs.Prelude.{ℕ, zero, suc, ◌+◌, ◌-◌, ◌^◌, ◌≤◌, ◌<◌, Bool, cond, ◌&&◌, List, [], ◌∷◌, ◌++◌, ◌≡◌, ltb, eqb, length, get_or}
+use Rattle.std.specs.Prelude.{ℕ, ◌+◌, ◌-◌, ◌^◌, ◌≤◌, ◌<◌, Bool, cond, ◌&&◌, List, [], ◌∷◌, ◌≡◌, ltb, eqb, length, get_or}
 use Rattle.std.proofs.Math.Bool.{true, false}
 use Rattle.std.proofs.Math.Path.{refl}
-use Rattle.std.proofs.Common.{sym, ap, ◌∙◌, arith}
-use borrow.Author.Tests.{lt-ltb, le-ltb, ltb-true, ltb-false, le-leb, lt-leb, leb-true, leb-false}
+use Rattle.std.proofs.Common.{sym, ap, arith}
+use borrow.Author.Tests.{lt-ltb, le-ltb, ltb-true, ltb-false}
 use Rattle.std.proofs.Math.Dec.{leb}
 use Rattle.slices.specs.Tables.{agree}
 use Rattle.endian.specs.Numbers.{big_bytes, little_bytes, bytes_of_big}
 use Rattle.msgpack.specs.Formats.{integer_kind, text_kind, binary_kind, extension_kind, array_kind, map_kind, formats, format_of}
-use Rattle.msgpack.specs.Readers.{Int, plus, minus}
+use Rattle.msgpack.specs.Readers.{plus, minus}
 use Rattle.msgpack_heads.specs.Heads.{Form, form, form_bytes, sized_form, text_form, unsigned_form, container_form, text_head, binary_head, unsigned_integer, array_head, map_head}
 use Rattle.msgpack.specs.Short.{fixed_holds, fits_in, short_width, argument_width, is_signed, signed_well, is_short}
-use Rattle.msgpack_model.specs.Encoding.{Number, Signed, non_negative, negative, TextHead, fixstr, str8, str16, str32, BinaryHead, bin8, bin16, bin32, ExtensionHead, fixext1, fixext2, fixext4, fixext8, fixext16, ext8, ext16, ext32, ArrayHead, fixarray, array16, array32, MapHead, fixmap, map16, map32}
+use Rattle.msgpack_model.specs.Encoding.{Number, TextHead, fixstr, str8, str16, str32, BinaryHead, bin8, bin16, bin32, ExtensionHead, fixext1, fixext2, fixext4, fixext8, fixext16, ext8, ext16, ext32, ArrayHead, fixarray, array16, array32, MapHead, fixmap, map16, map32}
 use Rattle.msgpack_model.specs.Writers.{number_lt, form_length}
 
 -- ---- the forms that the project's writer has no use for
@@ -46,10 +46,10 @@ number_bytes : {w n : ℕ} {e : List ℕ} → Number w n e → big_bytes w n ≡
 number_bytes {e = e} x = rw (← x.size, ← x.is) (bytes_of_big e x.bytes)
 
 -- a row that is the writer's, and one that is longer
-same_row : (s : Bool) (b w n : ℕ) {e : List ℕ} → Number w n e → s ≡ true → Verdict s (b ∷ e) (form_bytes (form b w) n)
+pub same_row : (s : Bool) (b w n : ℕ) {e : List ℕ} → Number w n e → s ≡ true → Verdict s (b ∷ e) (form_bytes (form b w) n)
 same_row s b w n x t = same t (ap (λ l. b ∷ l) (sym (number_bytes x)))
 
-longer_row : (s : Bool) (b w n m : ℕ) (f : Form) {e : List ℕ} → Number w n e → s ≡ false → f.width < w → Verdict s (b ∷ e) (form_bytes f m)
+pub longer_row : (s : Bool) (b w n m : ℕ) (f : Form) {e : List ℕ} → Number w n e → s ≡ false → f.width < w → Verdict s (b ∷ e) (form_bytes f m)
 longer_row s b w n m f x t l = longer t (omega (arith, form_length f m, x.size))
 
 -- ---- the three sized forms behind a fixed one
@@ -97,7 +97,7 @@ module _ (kind first n : ℕ) (fixed : Form) (flat : kind < array_kind) (one_byt
       by false false false p q = same_row _ (first + 2) 4 n x refl
 
 -- a test that adds nothing
-still : (s : Bool) {e f : List ℕ} → Verdict s e f → Verdict (s && true) e f
+pub still : (s : Bool) {e f : List ℕ} → Verdict s e f → Verdict (s && true) e f
 still true x = x
 still false x = x
 
@@ -219,17 +219,6 @@ unsigned_8 n {e = e} x = by (ltb n 128) (ltb n 256) (ltb n 65536) (ltb n 4294967
 
 -- ---- negative integers
 
--- the number n of w bytes that stands for -m
-record Below (w n m : ℕ) : Type 0 where
-  upper : 256 ^ w ≤ n + n
-  sum : n + m ≡ 256 ^ w
-
-same_negative : (s : Bool) (b w n m : ℕ) {e : List ℕ} → Number w n e → n + m ≡ 256 ^ w → s ≡ true → Verdict s (b ∷ e) (form_bytes (form b w) (256 ^ w - m))
-same_negative s b w n m x z t = let is : 256 ^ w - m ≡ n = omega arith in rw is (same_row s b w n x t)
-
-abbrev NegativeRow : ℕ → ℕ → ℕ → List ℕ → Type 0
-NegativeRow w b m e = Verdict (eqb w (short_width integer_kind (minus m))) (b ∷ e) (negative_integer m)
-
 pub fixed_negative : (n m : ℕ) → n < 32 → n + m ≡ 32 → Verdict (is_short (0xe0 + n) (minus m)) ((0xe0 + n) ∷ []) (negative_integer m)
 unfolding is_short argument_width signed_well is_signed format_of formats fixed_holds short_width negative_form big_bytes little_bytes
 fixed_negative n m k z =
@@ -239,57 +228,6 @@ fixed_negative n m k z =
     by_row : (n : ℕ) → n < 32 → Verdict (is_short (0xe0 + n) (minus (32 - n))) ((0xe0 + n) ∷ []) (negative_integer (32 - n))
     by_row n k = same (agree (λ k. is_short (0xe0 + k) (minus (32 - k))) (λ k. true) 32 refl n k)
         (agree (λ k. (0xe0 + k) ∷ []) (λ k. negative_integer (32 - k)) 32 refl n k)
-
-module _ (m : ℕ) where
-  abbrev negative_by : Bool → Bool → Bool → Bool → Form
-  negative_by t u v z = cond t (form (256 - m) 0) (cond u (form 0xd0 1) (cond v (form 0xd1 2) (cond z (form 0xd2 4) (form 0xd3 8))))
-
-  abbrev negative_width_by : Bool → Bool → Bool → Bool → ℕ
-  negative_width_by t u v z = cond t 0 (cond u 1 (cond v 2 (cond z 4 8)))
-
-  abbrev NegativeBy : ℕ → ℕ → List ℕ → Bool → Bool → Bool → Bool → Type 0
-  NegativeBy w b e t u v z = Verdict (eqb w (negative_width_by t u v z)) (b ∷ e) (form_bytes (negative_by t u v z) (256 ^ (negative_by t u v z).width - m))
-
-  negative_1 : (n : ℕ) {e : List ℕ} → Number 1 n e → Below 1 n m → NegativeRow 1 0xd0 m e
-  unfolding short_width fits_in fixed_holds negative_form
-  negative_1 n {e = e} x y = by (leb m 32) (leb m 128) (leb m 32768) (leb m 2147483648) refl
-    where
-      by : (t u v z : Bool) → leb m 128 ≡ u → NegativeBy 1 0xd0 e t u v z
-      by true u v z p = longer_row _ 0xd0 1 n _ (form (256 - m) 0) x refl (omega arith)
-      by false true v z p = same_negative _ 0xd0 1 n m x y.sum refl
-      by false false v z p = absurd (omega (arith, leb-false m 128 p, y.upper, y.sum))
-
-  negative_2 : (n : ℕ) {e : List ℕ} → Number 2 n e → Below 2 n m → NegativeRow 2 0xd1 m e
-  unfolding short_width fits_in fixed_holds negative_form
-  negative_2 n {e = e} x y = by (leb m 32) (leb m 128) (leb m 32768) (leb m 2147483648) refl
-    where
-      by : (t u v z : Bool) → leb m 32768 ≡ v → NegativeBy 2 0xd1 e t u v z
-      by true u v z p = longer_row _ 0xd1 2 n _ (form (256 - m) 0) x refl (omega arith)
-      by false true v z p = longer_row _ 0xd1 2 n _ (form 0xd0 1) x refl (omega arith)
-      by false false true z p = same_negative _ 0xd1 2 n m x y.sum refl
-      by false false false z p = absurd (omega (arith, leb-false m 32768 p, y.upper, y.sum))
-
-  negative_4 : (n : ℕ) {e : List ℕ} → Number 4 n e → Below 4 n m → NegativeRow 4 0xd2 m e
-  unfolding short_width fits_in fixed_holds negative_form
-  negative_4 n {e = e} x y = by (leb m 32) (leb m 128) (leb m 32768) (leb m 2147483648) refl
-    where
-      by : (t u v z : Bool) → leb m 2147483648 ≡ z → NegativeBy 4 0xd2 e t u v z
-      by true u v z p = longer_row _ 0xd2 4 n _ (form (256 - m) 0) x refl (omega arith)
-      by false true v z p = longer_row _ 0xd2 4 n _ (form 0xd0 1) x refl (omega arith)
-      by false false true z p = longer_row _ 0xd2 4 n _ (form 0xd1 2) x refl (omega arith)
-      by false false false true p = same_negative _ 0xd2 4 n m x y.sum refl
-      by false false false false p = absurd (omega (arith, leb-false m 2147483648 p, y.upper, y.sum))
-
-  negative_8 : (n : ℕ) {e : List ℕ} → Number 8 n e → Below 8 n m → NegativeRow 8 0xd3 m e
-  unfolding short_width fits_in fixed_holds negative_form
-  negative_8 n {e = e} x y = by (leb m 32) (leb m 128) (leb m 32768) (leb m 2147483648)
-    where
-      by : (t u v z : Bool) → NegativeBy 8 0xd3 e t u v z
-      by true u v z = longer_row _ 0xd3 8 n _ (form (256 - m) 0) x refl (omega arith)
-      by false true v z = longer_row _ 0xd3 8 n _ (form 0xd0 1) x refl (omega arith)
-      by false false true z = longer_row _ 0xd3 8 n _ (form 0xd1 2) x refl (omega arith)
-      by false false false true = longer_row _ 0xd3 8 n _ (form 0xd2 4) x refl (omega arith)
-      by false false false false = same_negative _ 0xd3 8 n m x y.sum refl
 
 -- ---- integers, with their first bytes
 
@@ -308,22 +246,3 @@ unsigned_row_4 n x = still _ (unsigned_4 n x)
 pub unsigned_row_8 : (n : ℕ) {e : List ℕ} → Number 8 n e → Verdict (is_short 0xcf (plus n)) (0xcf ∷ e) (unsigned_integer n)
 unfolding is_short argument_width signed_well is_signed format_of formats
 unsigned_row_8 n x = still _ (unsigned_8 n x)
-
-below : (w n m : ℕ) → 256 ^ w ≤ n + n → n + m ≡ 256 ^ w → Below w n m
-below w n m l z = record { upper = l; sum = z }
-
-pub negative_row_1 : (n m : ℕ) {e : List ℕ} → Number 1 n e → 256 ^ 1 ≤ n + n → n + m ≡ 256 ^ 1 → Verdict (is_short 0xd0 (minus m)) (0xd0 ∷ e) (negative_integer m)
-unfolding is_short argument_width signed_well is_signed format_of formats
-negative_row_1 n m x l z = still _ (negative_1 m n x (below 1 n m l z))
-
-pub negative_row_2 : (n m : ℕ) {e : List ℕ} → Number 2 n e → 256 ^ 2 ≤ n + n → n + m ≡ 256 ^ 2 → Verdict (is_short 0xd1 (minus m)) (0xd1 ∷ e) (negative_integer m)
-unfolding is_short argument_width signed_well is_signed format_of formats
-negative_row_2 n m x l z = still _ (negative_2 m n x (below 2 n m l z))
-
-pub negative_row_4 : (n m : ℕ) {e : List ℕ} → Number 4 n e → 256 ^ 4 ≤ n + n → n + m ≡ 256 ^ 4 → Verdict (is_short 0xd2 (minus m)) (0xd2 ∷ e) (negative_integer m)
-unfolding is_short argument_width signed_well is_signed format_of formats
-negative_row_4 n m x l z = still _ (negative_4 m n x (below 4 n m l z))
-
-pub negative_row_8 : (n m : ℕ) {e : List ℕ} → Number 8 n e → 256 ^ 8 ≤ n + n → n + m ≡ 256 ^ 8 → Verdict (is_short 0xd3 (minus m)) (0xd3 ∷ e) (negative_integer m)
-unfolding is_short argument_width signed_well is_signed format_of formats
-negative_row_8 n m x l z = still _ (negative_8 m n x (below 8 n m l z))

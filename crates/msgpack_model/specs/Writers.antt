@@ -4,12 +4,11 @@ use Rattle.std.proofs.Math.Option.{some}
 use Rattle.std.proofs.Common.{ap, ◌∙◌, mod-eq_of_lt, arith, ltb-true, ltb-false, length-append}
 use Rattle.slices.specs.Bytes.{AllBytes}
 use Rattle.endian.specs.Numbers.{little_bytes, big_lt, big_bytes, length_big_bytes, big_bytes_bytes, big_of_bytes}
-use Rattle.msgpack.specs.Readers.{plus, content_of_part, read_text, read_binary, read_integer, counted, count_at, read_array, read_map}
+use Rattle.msgpack.specs.Readers.{plus, counted, count_at, read_map}
 use Rattle.msgpack_heads.specs.Heads.{Form, form, form_bytes, sized_form, text_form, unsigned_form, container_form, text_head, binary_head, unsigned_integer, array_head, map_head}
-use Rattle.msgpack_model.specs.Values.{Integer, Text, Binary, Array, Map, Values, Pairs, count_values, count_pairs}
-use Rattle.msgpack_model.specs.Encoding.{Number, non_negative, TextHead, fixstr, str8, str16, str32, BinaryHead, bin8, bin16, bin32, ArrayHead, fixarray, array16, array32, MapHead, fixmap, map16, map32, positive_fixint, uint8, uint16, uint32, uint64, int8, int16, int32, int64, text, binary, Encodes, scalar, array, map, EncodesValues, EncodesPairs}
-use Rattle.msgpack_model.specs.Heads.{array_begins, map_begins}
-use Rattle.msgpack_model.specs.Readers.{integer_reads, text_reads, binary_reads}
+use Rattle.msgpack_model.specs.Values.{Integer, Text, Binary, Map, Pairs, count_pairs}
+use Rattle.msgpack_model.specs.Encoding.{Number, non_negative, TextHead, fixstr, str8, str16, str32, BinaryHead, bin8, bin16, bin32, ArrayHead, fixarray, array16, array32, MapHead, fixmap, map16, map32, positive_fixint, uint8, uint16, uint32, uint64, int8, int16, int32, int64, text, binary, Encodes, scalar, map, EncodesPairs}
+use Rattle.msgpack_model.specs.Heads.{map_begins}
 
 -- ---- the bytes of a number
 
@@ -78,9 +77,6 @@ unsigned_written n h =
     (λ l. sized_by (λ f. Encodes (Integer (plus n)) (form_bytes f n)) 0xcc n (λ m. scalar (uint8 (number_written 1 n m)))
     (λ m. scalar (uint16 (number_written 2 n m))) (scalar (uint32 (number_written 4 n l))))
     λ l. scalar (uint64 (number_written 8 n h))
-
-pub array_written : {vs : Values} {e : List ℕ} → EncodesValues vs e → count_values vs < 2 ^ 32 → Encodes (Array vs) (array_head (count_values vs) ++ e)
-array_written {vs = vs} x h = array (array_head_lem (count_values vs) h) x
 
 pub map_written : {ps : Pairs} {e : List ℕ} → EncodesPairs ps e → count_pairs ps < 2 ^ 32 → Encodes (Map ps) (map_head (count_pairs ps) ++ e)
 map_written {ps = ps} x h = map (map_head_lem (count_pairs ps) h) x
@@ -194,21 +190,6 @@ unsigned_shortest (scalar (int32 (non_negative {n = n} x l))) = as_long (unsigne
 unsigned_shortest (scalar (int64 (non_negative {n = n} x l))) = as_long (unsigned_form n) n 8 0xd3 x (unsigned_8 n)
 
 -- ---- each reads back, whatever follows
-
-pub text_reads_back : (t : List ℕ) → AllBytes t → length t < 2 ^ 32 → (rest : List ℕ)
-    → content_of_part ((text_head (length t) ++ t) ++ rest) (read_text ((text_head (length t) ++ t) ++ rest)) ≡ some t
-text_reads_back t bytes h rest = text_reads (text_written t bytes h) rest
-
-pub binary_reads_back : (t : List ℕ) → AllBytes t → length t < 2 ^ 32 → (rest : List ℕ)
-    → content_of_part ((binary_head (length t) ++ t) ++ rest) (read_binary ((binary_head (length t) ++ t) ++ rest)) ≡ some t
-binary_reads_back t bytes h rest = binary_reads (binary_written t bytes h) rest
-
-pub unsigned_reads_back : (n : ℕ) → n < 2 ^ 64 → (rest : List ℕ) → read_integer (unsigned_integer n ++ rest) ≡ some (plus n)
-unsigned_reads_back n h rest = integer_reads (unsigned_written n h) rest
-
-pub array_reads_back : (n : ℕ) → n < 2 ^ 32 → (rest : List ℕ) → read_array (array_head n ++ rest) ≡ some (counted n (length (array_head n)))
-unfolding count_at
-array_reads_back n h rest = rw (array_begins (array_head_lem n h) rest)
 
 pub map_reads_back : (n : ℕ) → n < 2 ^ 32 → (rest : List ℕ) → read_map (map_head n ++ rest) ≡ some (counted n (length (map_head n)))
 unfolding count_at

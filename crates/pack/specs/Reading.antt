@@ -6,7 +6,6 @@ use Rattle.tlv.specs.Found.{Found, end, found, fault, step, step_none, number_of
 use Rattle.tlv.specs.declared.RecordHeader.{RecordHeader}
 use Rattle.pack.specs.declared.Entry.{Entry}
 use Rattle.pack.specs.declared.Checked.{Checked}
-use Rattle.pack.specs.declared.Checked.TheVariants as Checked
 
 -- how a reading ends: at the end of the pack, or with a refusal's number and place
 pub data Ending : Type 0 where

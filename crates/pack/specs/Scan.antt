@@ -8,7 +8,6 @@ use Rattle.tlv.specs.declared.RecordHeader.{RecordHeader}
 use Rattle.pack.specs.declared.Entry.{Entry}
 use Rattle.pack.specs.declared.Listed.{Listed}
 use Rattle.pack.specs.declared.Scanned.{Scanned}
-use Rattle.pack.specs.declared.Scanned.TheVariants as Scanned
 use Rattle.pack.specs.Reading.{Reading, Ending, whole, refused, records, Outcome, counted, alone, outcome, entry_at, records_end, records_fault, records_on}
 
 -- stands for an entry where there is none

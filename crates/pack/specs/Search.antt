@@ -16,7 +16,6 @@ use Rattle.tlv.specs.declared.RecordHeader.{RecordHeader}
 use Rattle.xxh64.specs.Xxh64.{xxh64}
 use Rattle.pack.specs.declared.Entry.{Entry}
 use Rattle.pack.specs.declared.Match.{Match}
-use Rattle.pack.specs.declared.Match.TheVariants as Match
 use Rattle.pack.specs.Reading.{Reading, refused, next, records, reading, entry_at}
 use Rattle.pack.specs.Scan.{no_entry}
 
@@ -72,24 +71,24 @@ first_nowhere f n count i l =
 module _ (f : ℕ → ℕ) (n : ℕ) where
   -- what an answer of the search among so many places from `at` on says
   record Told (at k : ℕ) (o : Option ℕ) : Type 0 where
-    pub at_place_lem : (p : ℕ) → o ≡ some p → (at ≤ p) × (p < at + k) × (f p ≡ n) × ((j : ℕ) → at ≤ j → j < p → f j ≡ n → ⊥)
+    pub at_place : (p : ℕ) → o ≡ some p → (at ≤ p) × (p < at + k) × (f p ≡ n) × ((j : ℕ) → at ≤ j → j < p → f j ≡ n → ⊥)
     pub nowhere : o ≡ none → (j : ℕ) → at ≤ j → j < at + k → f j ≡ n → ⊥
 
   same_place : (p q : ℕ) → some p ≡ some q → p ≡ q
   same_place p q e = cc
 
   told_none : (at : ℕ) → Told at 0 none
-  told_none at = record { at_place_lem = λ p e. absurd_numbers (cc); nowhere = λ e j l m. absurd (omega arith) }
+  told_none at = record { at_place = λ p e. absurd_numbers (cc); nowhere = λ e j l m. absurd (omega arith) }
 
   told_here : (at k : ℕ) → f at ≡ n → Told at (suc k) (some at)
   told_here at k has = record {
-    at_place_lem = λ p e. let same : at ≡ p = same_place at p e in (omega arith, omega arith, rw (← same) has, λ j l m. absurd (omega arith));
+    at_place = λ p e. let same : at ≡ p = same_place at p e in (omega arith, omega arith, rw (← same) has, λ j l m. absurd (omega arith));
     nowhere = λ e. absurd_numbers (cc);
   }
 
   told_later : (at k : ℕ) (o : Option ℕ) → (f at ≡ n → ⊥) → Told (suc at) k o → Told at (suc k) o
   told_later at k o differs t = record {
-    at_place_lem = λ p e. let r = t.at_place p e in (omega (arith, r.0), omega (arith, r.1), r.2, λ j l m. from j l (λ l'. r.3 j l' m));
+    at_place = λ p e. let r = t.at_place p e in (omega (arith, r.0), omega (arith, r.1), r.2, λ j l m. from j l (λ l'. r.3 j l' m));
     nowhere = λ e j l m. from j l (λ l'. t.nowhere e j l' (omega arith));
   }
     where

@@ -7,7 +7,6 @@ use Rattle.tlv.specs.Found.{Found, end, found, fault, step, number_of}
 use Rattle.tlv.specs.declared.RecordHeader.{RecordHeader}
 use Rattle.pack.specs.declared.Entry.{Entry}
 use Rattle.pack.specs.declared.Walked.{Walked}
-use Rattle.pack.specs.declared.Walked.TheVariants as Walked
 use Rattle.pack.specs.declared.Turn.{Turn}
 use Rattle.pack.specs.Reading.{Reading, Ending, whole, refused, records, reading, entry_at, records_end, records_fault, records_on}
 

@@ -6,7 +6,7 @@ use Rattle.msgpack.specs.Lookup.{over}
 use Rattle.msgpack.specs.Views.{Both, both, neither, Each, no_more, and_each, SameUnder, both_found, both_missing, both_broken, SeenAlike}
 use Rattle.msgpack_model.specs.Values.{Value, Binary, Array, Map, Values, no_values_lem, value, Pairs, no_pairs, pair, depth, values_depth, pairs_depth, as_boolean, as_integer, as_text, as_binary, as_array, as_map}
 use Rattle.msgpack_model.specs.Encoding.{Encodes}
-use Rattle.msgpack_model.specs.Unique.{one_value}
+use Rattle.msgpack_model.proofs.Unique.{one_value}
 use Rattle.msgpack_model.specs.Lookup.{is_text, key_is, last_from, last_in, times_key, times_in}
 use Rattle.msgpack_model.specs.Views.{list_of, found_by, under_in, value_view}
 

@@ -15,10 +15,11 @@ use Rattle.msgpack.specs.Lookup.{Under, found, missing, broken, last_value, at_p
 use Rattle.msgpack.specs.Views.{front_of, byte_view, SameUnder, both_found, both_missing, both_broken}
 use Rattle.msgpack_model.specs.Values.{Value, depth, as_binary}
 use Rattle.msgpack_model.specs.Encoding.{Encodes}
-use Rattle.msgpack_model.specs.Complete.{complete}
-use Rattle.msgpack_model.specs.Deep.{deeper}
-use Rattle.msgpack_model.specs.Readers.{binary_reads}
-use Rattle.msgpack_model.specs.Views.{value_view, Shows, shown, bytes_alike, keys_alike}
+use Rattle.msgpack_model.proofs.Complete.{complete}
+use Rattle.msgpack_model.proofs.Deep.{deeper}
+use Rattle.msgpack_model.proofs.Readers.{binary_reads}
+use Rattle.msgpack_model.specs.Views.{value_view, Shows, shown}
+use Rattle.msgpack_model.proofs.Views.{bytes_alike, keys_alike}
 use Rattle.value.specs.Fields.{shifted}
 use Rattle.value.specs.Fields as bytes-fields
 use Rattle.value.specs.Header.{primary_key, header_keys, secondary_keys, Telling, telling, header_repeats, Header, header_by, tested, told_in, telling_of}

@@ -7,9 +7,10 @@ use Rattle.msgpack.specs.Items.{pass_item, depth_allowed}
 use Rattle.msgpack.specs.Views.{byte_view}
 use Rattle.msgpack_model.specs.Values.{Value, depth}
 use Rattle.msgpack_model.specs.Encoding.{Encodes}
-use Rattle.msgpack_model.specs.Complete.{complete}
-use Rattle.msgpack_model.specs.Deep.{deeper}
-use Rattle.msgpack_model.specs.Views.{value_view, Shows, shown, bytes_alike, keys_alike}
+use Rattle.msgpack_model.proofs.Complete.{complete}
+use Rattle.msgpack_model.proofs.Deep.{deeper}
+use Rattle.msgpack_model.specs.Views.{value_view, Shows, shown}
+use Rattle.msgpack_model.proofs.Views.{bytes_alike, keys_alike}
 use Rattle.identifier.specs.Identity.{Identity}
 use Rattle.primary.specs.Parts as bytes
 use Rattle.primary.specs.Parts.{fills, identity_keys, block_keys, version_keys, version_delete_keys, block_seen, Version, version_seen, VersionDelete, version_delete_seen}

@@ -9,8 +9,8 @@ use Rattle.msgpack.specs.Lookup.{found}
 use Rattle.msgpack.specs.Views.{Both, both, Each, and_each, SameUnder, both_found}
 use Rattle.msgpack_model.specs.Values.{Value, Boolean, Text, Binary, Array, Map, no_values_lem, value, no_pairs, pair}
 use Rattle.msgpack_model.specs.Encoding.{Encodes}
-use Rattle.msgpack_model.specs.Unique.{unique, one_value}
-use Rattle.msgpack_model.specs.Unique as model
+use Rattle.msgpack_model.proofs.Unique.{unique, one_value}
+use Rattle.msgpack_model.proofs.Unique as model
 use Rattle.msgpack_model.specs.Views.{found_by}
 use Rattle.value.specs.Header.{Telling}
 use Rattle.records.specs.Record.{Contents}
@@ -62,10 +62,10 @@ module _ {v w : Value} {e f : List ℕ} (x : Encodes v e) (y : Encodes w f) (sec
   both_parts : (s t : List ℕ) → s ≡ e ++ secondary → t ≡ f ++ other → AlikeRecordValues s t → Alike v w × (secondary ≡ other)
   both_parts s t p q (same_value r) =
       let h : e ++ secondary ≡ f ++ other = sym p ∙ q in
-      (subst (Alike v) (unique x y secondary other h) (same v), (model.same_bytes x y secondary other h).rest)
+      (subst (Alike v) (unique x y secondary other h) (same v), (model.same_bytes_lem x y secondary other h).rest)
   both_parts s t p q (headers a b z r) = (
     subst₂ Alike (unique a x r secondary p) (unique b y r other q) z,
-    sym (model.same_bytes a x r secondary p).rest ∙ (model.same_bytes b y r other q).rest,
+    sym (model.same_bytes_lem a x r secondary p).rest ∙ (model.same_bytes_lem b y r other q).rest,
   )
 
   pub headers_differ : (Alike v w → ⊥) → AlikeRecordValues (e ++ secondary) (f ++ other) → ⊥

@@ -1,6 +1,6 @@
 -- What stands at a place of a pack: the end, a record, or the lowest number of document 01's refusal sheet, from 2 to 8, that applies there.
 use Rattle.std.specs.Prelude.{ℕ, ◌+◌, ◌-◌, ◌%◌, ◌≤◌, ◌<◌, Bool, true, false, not, cond, List, [], ◌∷◌, ◌++◌, ◌≡◌, refl, eqb, ltb, length, take, drop}
-use Rattle.std.proofs.Math.Option.{Option, none, some, Option·elim}
+use Rattle.std.proofs.Math.Option.{Option, none, some, Option-elim}
 use Rattle.std.proofs.Common.{sym, ◌∙◌, arith, ltb-false, eqb-true, ne_eqb}
 use Rattle.refusals.specs.Sheet.{Row, lowest}
 use Rattle.xxh64.specs.Xxh64.{xxh64}
@@ -85,13 +85,13 @@ found_step (Step.Fault f) = fault (number_of f)
 
 -- ---- the step, from what the header is found to be
 
-lowest_append : (rows more : List Row) → lowest (rows ++ more) ≡ Option·elim (lowest rows) (lowest more) some
-unfolding lowest Option·elim
+lowest_append : (rows more : List Row) → lowest (rows ++ more) ≡ Option-elim (lowest rows) (lowest more) some
+unfolding lowest Option-elim
 lowest_append [] more = refl
 lowest_append (row ∷ rows) more = go row.applies (lowest_append rows more)
   where
-    go : (t : Bool) → lowest (rows ++ more) ≡ Option·elim (lowest rows) (lowest more) some
-        → cond t (some row.number) (lowest (rows ++ more)) ≡ Option·elim (cond t (some row.number) (lowest rows)) (lowest more) some
+    go : (t : Bool) → lowest (rows ++ more) ≡ Option-elim (lowest rows) (lowest more) some
+        → cond t (some row.number) (lowest (rows ++ more)) ≡ Option-elim (cond t (some row.number) (lowest rows)) (lowest more) some
     go true e = refl
     go false e = e
 
@@ -120,16 +120,16 @@ step_end s e = go (eqb (length s) 0) refl e
     go false p e = absurd (never (lowest (header_rows s ++ value_rows s)) e)
 
 module _ (s : List ℕ) (some_bytes : 0 < length s) where
-  step_some : step s ≡ found_unless (Option·elim (lowest (header_rows s)) (lowest (value_rows s)) some) (header_of s)
+  step_some : step s ≡ found_unless (Option-elim (lowest (header_rows s)) (lowest (value_rows s)) some) (header_of s)
   unfolding step
   step_some = rw (ne_eqb (length s) 0 (omega arith), lowest_append (header_rows s) (value_rows s))
 
   pub step_of_fault : (n : ℕ) → header s ≡ fault n → step s ≡ fault n
-  unfolding header Option·elim
+  unfolding header Option-elim
   step_of_fault n e = rw (step_some, fault_unless (lowest (header_rows s)) (header_of s) n e)
 
   pub step_of_header : (h : RecordHeader) → header s ≡ found h → step s ≡ found_unless (lowest (value_rows s)) h
-  unfolding header Option·elim
+  unfolding header Option-elim
   step_of_header h e =
       let f = found_unless_lem (lowest (header_rows s)) (header_of s) h e in
       rw (step_some, f.0, f.1)

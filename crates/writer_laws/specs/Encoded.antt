@@ -7,7 +7,8 @@ use Rattle.msgpack_heads.specs.Heads.{unsigned_integer, array_head, map_head}
 use Rattle.msgpack_model.specs.Values as model
 use Rattle.msgpack_model.specs.Values.{Value, Text, Binary, no_pairs, count_pairs}
 use Rattle.msgpack_model.specs.Encoding.{Encodes, scalar, true_byte, EncodesPairs, no_pair, next_pair, none, next}
-use Rattle.msgpack_model.specs.Writers.{text_written, binary_written, unsigned_written, array_written, map_written}
+use Rattle.msgpack_model.specs.Writers.{text_written, binary_written, unsigned_written, map_written}
+use Rattle.msgpack_model.proofs.Writers.{array_written}
 use Rattle.identifier.specs.Identity.{Identity, is_valid, sizes}
 use Rattle.identifier.specs.Composite.{composite_text, composite_most}
 use Rattle.identifier.specs.Ulid.{is_ulid, ulid_length}

@@ -7,7 +7,7 @@ use Rattle.msgpack_heads.specs.Heads.{text_head, binary_head, unsigned_integer, 
 use Rattle.msgpack_forms.specs.Items.{all_short}
 use Rattle.msgpack_model.specs.Encoding.{Encodes}
 use Rattle.msgpack_model.specs.Encoded.{encoded, WellSigned}
-use Rattle.msgpack_model.specs.Short.{encoded_all_short, all_short_exactly}
+use Rattle.msgpack_model.proofs.Short.{encoded_all_short, all_short_exactly}
 use Rattle.identifier.specs.Identity.{Identity, is_valid}
 use Rattle.identifier.specs.Composite.{composite_text}
 use Rattle.identifier.specs.Ulid.{is_ulid}

@@ -6,7 +6,7 @@ use Rattle.slices.specs.Logic.{absurd_numbers}
 use Rattle.msgpack_heads.specs.Heads.{binary_head, unsigned_integer, array_head, map_head}
 use Rattle.msgpack_model.specs.Values.{Value, Boolean, Text, Map, Array, value, no_values_lem, Pairs, pair as pair_of, no_pairs, count_pairs}
 use Rattle.msgpack_model.specs.Encoding.{Encodes, scalar, true_byte, array, map, none, next, EncodesPairs, no_pair, next_pair}
-use Rattle.msgpack_model.specs.Readers.{scalar_no_array, scalar_no_map}
+use Rattle.msgpack_model.proofs.Readers.{scalar_no_array, scalar_no_map}
 use Rattle.msgpack_model.specs.Writers.{text_shortest, binary_shortest, unsigned_shortest, array_head_shortest, map_head_shortest}
 use Rattle.identifier.specs.Identity.{Identity}
 use Rattle.identifier.specs.Composite.{composite_text}

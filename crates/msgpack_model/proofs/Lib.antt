@@ -1,0 +1,15 @@
+pub mod Heads
+pub mod Complete
+pub mod Rows
+pub mod Sound
+pub mod Deep
+pub mod Passing
+pub mod Scalars
+pub mod Unique
+pub mod Readers
+pub mod Lookup
+pub mod Views
+pub mod Writers
+pub mod Shorts
+pub mod Encoded
+pub mod Short
