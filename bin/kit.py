@@ -93,13 +93,19 @@ def call(name, *words):
         return status, out.read()
 
 
+@functools.lru_cache(maxsize=None)
+def library(name):
+    """Builds a library of the repository over kept work, where it is not there."""
+    status, said = call(name, "lib")
+    if status:
+        raise Fault("%s\n%s could not be built" % (said, name))
+
+
 def libraries(crate):
     """Builds the libraries below a crate, where they are not there."""
     if not as_passed(crate):
         for each in crate.below():
-            status, said = call(each.name, "lib")
-            if status:
-                raise Fault("%s\n%s could not be built" % (said, each.name))
+            library(each.name)
 
 
 def tell(command, names):
@@ -170,9 +176,7 @@ def archive(command, *names):
             raise Fault("\n".join(faults))
         return
     for each in meant:
-        status, said = call(each.name, "lib")
-        if status:
-            raise Fault("%s\n%s could not be built" % (said, each.name))
+        library(each.name)
 
 
 def passed(before):
