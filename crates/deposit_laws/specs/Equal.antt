@@ -9,7 +9,8 @@ use Rattle.refusals.specs.Answers.{Answer, granted}
 use Rattle.tlv.specs.Layout.{Record, Fits, layout, layouts, length_layout}
 use Rattle.pack.specs.declared.Entry.{Entry}
 use Rattle.pack.specs.Reading.{Reading, whole, reading}
-use Rattle.pack.specs.Acceptance.{AllFit, entry_of, entries_of, accepted_within, accepted_layouts, layouts_accepted}
+use Rattle.pack.specs.Acceptance.{AllFit, entry_of, entries_of}
+use Rattle.pack.proofs.Acceptance.{accepted_within, accepted_layouts, layouts_accepted}
 use Rattle.identifier.specs.Identity.{Identity}
 use Rattle.records.specs.Record as records
 use Rattle.records.specs.Record.{block_tag, primary_in, read_record, at_place, record_at}

@@ -6,9 +6,7 @@ use Rattle.refusals.specs.Sheet.{lowest}
 use Rattle.refusals.specs.Answers.{Answer, refused, granted, unless}
 use Rattle.msgpack.specs.Items.{depth_allowed}
 use Rattle.msgpack_model.specs.Values.{Value, depth}
-use Rattle.identifier.specs.Identity.{Identity}
 use Rattle.value.specs.Header.{Telling, Header}
-use Rattle.primary.specs.Parts as primary
 use Rattle.records.specs.Record.{block_tag, version_tag, version_delete_tag, Contents, of_block, of_version, of_version_delete, of_pack_list, contents, told_rows}
 use Rattle.records_model.specs.Alike.{Alike, AlikeBytes, same_bytes_lem, encodings, same_depth}
 use Rattle.records_model.specs.Header.{Held, filled_by, holds}
