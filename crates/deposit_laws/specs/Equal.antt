@@ -19,7 +19,7 @@ use Rattle.writer.specs.Values.{block_value}
 use Rattle.writer.specs.Writing.{block, item_bytes}
 use Rattle.deposit.specs.Exactly.{Keeps}
 use Rattle.deposit.specs.Packs.{value_at, spare_at, deposit_reading}
-use Rattle.deposit.specs.Deposited.{deposited_exactly}
+use Rattle.deposit.proofs.Deposited.{deposited_exactly}
 use Rattle.deposit_laws.specs.Calls.{behind, spare_there, value_at_lem}
 use Rattle.deposit_laws.specs.Blocks.{data_in, block_is}
 

@@ -13,8 +13,8 @@ use Rattle.records_model.specs.HeaderReads.{answer_in, value_reads}
 use Rattle.records_model.specs.Primary.{block_reads, version_reads, version_delete_reads, pack_list_reads}
 use Rattle.records_model.specs.Record.{record_in, record_reads}
 use Rattle.records_model.specs.AnswersAlike.{AnswersAlike, same_refusal, both_read, SameHeld, SameRecord}
-use Rattle.records_model.specs.SameReading.{same_block_lem, same_version, same_version_delete, same_pack_list}
-use Rattle.records_model.specs.SameRecords.{same_held, same_records}
+use Rattle.records_model.proofs.SameReading.{same_block_lem, same_version, same_version_delete, same_pack_list}
+use Rattle.records_model.proofs.SameRecords.{same_held, same_records}
 
 -- ---- values
 

@@ -13,7 +13,8 @@ use Rattle.records_model.specs.Header.{Held, filled_by, holds}
 use Rattle.records_model.specs.Primary.{block, version, version_delete, pack_list}
 use Rattle.records_model.specs.Record.{contents_of, contents_reads, with_held, by_held, record_holds}
 use Rattle.records_model.specs.AnswersAlike.{AnswersAlike, same_refusal, first_22, second_22, both_read, same_answers, SameHeld, SameRecord}
-use Rattle.records_model.specs.SameReading.{SameHeader, same_header, same_block_lem, same_version, same_version_delete, same_pack_list}
+use Rattle.records_model.specs.SameReading.{SameHeader}
+use Rattle.records_model.proofs.SameReading.{same_header, same_block_lem, same_version, same_version_delete, same_pack_list}
 
 -- ---- the value
 
