@@ -13,7 +13,8 @@ use Rattle.refusals.specs.Answers.{Answer, refused, granted}
 use Rattle.tlv.specs.Layout.{Record, layout, layouts}
 use Rattle.pack.specs.declared.Entry.{Entry}
 use Rattle.pack.specs.Reading.{Reading, whole, reading}
-use Rattle.pack.specs.Acceptance.{AllFit, entry_of, entries_of, layouts_accepted, accepted_layouts, accepted_within}
+use Rattle.pack.specs.Acceptance.{AllFit, entry_of, entries_of}
+use Rattle.pack.proofs.Acceptance.{layouts_accepted, accepted_layouts, accepted_within}
 use Rattle.msgpack.specs.Views.{Each, no_more, and_each}
 use Rattle.identifier.specs.Identity.{Identity}
 use Rattle.records.specs.Record as records
