@@ -29,16 +29,23 @@ def broken(data):
     return theirs
 
 
+def proved(title, crate):
+    """The program, proved and built of the crates as they are."""
+    if subprocess.call([sys.executable, os.path.join(ROOT, "bin", "kit.py"), title, "program", crate]):
+        sys.exit("%s: no program to test" % title)
+    return os.path.join(ROOT, "target", "bin", crate)
+
+
 class Program(Cases):
     """A built program, and how many cases were tried on it."""
 
     def __init__(self, title, crate):
         options = argparse.ArgumentParser(description="Tests of the program %s." % crate)
-        options.add_argument("--program", default=os.path.join(ROOT, "target", "bin", crate))
+        options.add_argument("--program", help="default: the proved one, built where it is not there")
         super().__init__(title)
-        self.path = os.path.abspath(options.parse_args().program)
+        self.path = os.path.abspath(options.parse_args().program or proved(title, crate))
         if not os.access(self.path, os.X_OK):
-            sys.exit("%s: no program to test; rt check %s builds it" % (title, crate))
+            sys.exit("%s: no program to test" % title)
 
     def start(self, stdin, *arguments, **more):
         pipe = subprocess.PIPE

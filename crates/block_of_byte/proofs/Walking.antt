@@ -17,7 +17,7 @@ use Rattle.msgpack.specs.Readers.{Int, plus, read_integer}
 use Rattle.msgpack.specs.Lookup.{if_there, over}
 use Rattle.msgpack.specs.Views.{size_of, items_from}
 use Rattle.value.specs.Fields.{read_natural}
-use Rattle.pack_list.specs.Lists.{range, Entry, each_of, sum, greatest, is_filled}
+use Rattle.pack_list.specs.Lists.{range, Entry, each_of, sum, greatest}
 use Rattle.pack_list.specs.Blocks.{stored_from, stored_lengths, blocks, is_counted, holds}
 use Rattle.pack_list.specs.Stride.{counted_is}
 use Rattle.block_of_byte.specs.Finding.{moved, first_delta, other_deltas, sources_from, sources, block_from, block_in, found_in, find}
@@ -35,7 +35,7 @@ use Rattle.block_of_byte.specs.declared.BlockFound.{BlockFound}
 use Rattle.block_of_byte.specs.declared.BlockFound.TheVariants as block-answer
 use Rattle.pack_list.specs.declared.Fault.{Fault}
 use Rattle.block_of_byte.specs.declared.Found.TheVariants as found-answer
-use Rattle.pack_list.specs.Answers.{items_in, entry_of, or_else, number_of, read_for, held_of, holder_in, HeldIs, ReadFor, EntryStands}
+use Rattle.pack_list.specs.Answers.{items_in, entry_of, or_else, number_of, held_of, holder_in, HeldIs, ReadFor, EntryStands}
 use Rattle.block_of_byte.specs.Answers.{block_at, block_of, noted_of, moved_by, at_most, Offset, found_of, FoundStands, find_in}
 use Rattle.pack_list.specs.Walks.{none_left, FirstRead, first_read, items_count, each_count, entry_is}
 

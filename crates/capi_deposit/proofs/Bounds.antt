@@ -10,7 +10,8 @@ use Rattle.pack.specs.declared.Entry.{Entry}
 use Rattle.pack.specs.Reading.{Reading, Ending, whole, refused, reading, counted, outcome}
 use Rattle.words.specs.Words.{answer, answer_whole}
 use Rattle.deposit.specs.Packs.{deposit_reading, deposit}
-use Rattle.deposit.specs.Deposited.{deposit_place, deposit_count}
+use Rattle.deposit.specs.Deposited.{deposit_count}
+use Rattle.deposit.proofs.Deposited.{deposit_place}
 use Rattle.capi_deposit.specs.Deposit.{deposit_answer}
 
 count_is : (r : Reading) (n : ℕ) → counted n ≡ outcome r → n ≡ length r.entries

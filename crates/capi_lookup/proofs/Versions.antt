@@ -12,7 +12,7 @@ use lib.Seq.{length-take-le}
 use Rattle.slices.specs.Overwriting.{overwritten, written_bytes, written_within, none_overwritten}
 use Rattle.slices.specs.Places.{part_at}
 use Rattle.refusals.specs.Limit.{pack_limit}
-use Rattle.pack.specs.Acceptance.{accepted_reading}
+use Rattle.pack.proofs.Acceptance.{accepted_reading}
 use Rattle.identifier.specs.Ulid.{ulid_length}
 use Rattle.current_version.specs.Current.{Version, Answer, nothing, found, refused_at, alone, lookup}
 use Rattle.current_version.specs.Exactly.{current_member, lookup_exactly}

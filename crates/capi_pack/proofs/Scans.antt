@@ -10,7 +10,7 @@ use Rattle.slices.specs.Logic.{absurd_numbers}
 use Rattle.refusals.specs.Limit.{pack_limit}
 use Rattle.pack.specs.Reading.{Reading, Ending, whole, refused, counted, outcome_of, outcome, reading}
 use Rattle.pack.specs.Bounds.{reading_bounded}
-use Rattle.pack.specs.Acceptance.{accepted_reading}
+use Rattle.pack.proofs.Acceptance.{accepted_reading}
 use Rattle.pack.specs.Scan.{scanned, first_entries, first_entries_lem}
 use Rattle.pack.specs.declared.Entry.{Entry}
 use Rattle.pack.specs.declared.Checked.{Checked}

@@ -3,7 +3,8 @@ use Rattle.std.specs.Prelude.{ℕ, zero, suc, ◌+◌, ◌*◌, ◌/◌, ◌^◌
 use Rattle.std.proofs.Math.Option.{Option, none, some}
 use Rattle.std.proofs.Math.Path.{fun_ext}
 use Rattle.std.proofs.Common.{arith, lt-ltb, le-ltb}
-use Rattle.pack.specs.Search.{first, first_with, hash_at, first_exactly}
+use Rattle.pack.specs.Search.{first, first_with, hash_at}
+use Rattle.pack.proofs.Search.{first_exactly}
 use Rattle.pack.specs.declared.Entry.{Entry}
 use Rattle.words.specs.Words.{answer}
 use Rattle.capi_pack.specs.Scan.{entry_words, length_words}

@@ -12,7 +12,7 @@ use Rattle.slices.specs.Logic.{absurd_numbers}
 use Rattle.slices.specs.Overwriting.{overwritten, written_bytes, written_within, length_overwritten, overwritten_more, none_overwritten}
 use Rattle.refusals.specs.Answers.{granted, refused}
 use Rattle.msgpack.specs.Views.{byte_view}
-use Rattle.pack_list.specs.Lists.{Entry, PackList, entry_at, pack_list}
+use Rattle.pack_list.specs.Lists.{Entry, entry_at, pack_list}
 use Rattle.pack_list.specs.Blocks.{blocks}
 use Rattle.pack_list.specs.Answers.{entry_of, entries_in, list_in, ListInside, next_entry, next_of, NextInside, reading_of, ReadingInside}
 use Rattle.pack_list.specs.Walks.{items_count, each_count, entry_is, EntriesFrom, walk_end, Walked, walk_on}

@@ -11,7 +11,7 @@ use lib.ListN.{length, get_or, length-drop}
 use Rattle.slices.specs.Overwriting.{written_bytes}
 use Rattle.refusals.specs.Answers.{granted, refused}
 use Rattle.pack_list.specs.Lists.{Entry}
-use Rattle.pack_list.specs.Answers.{entry_of, pack_place, entry_items, EntryStands}
+use Rattle.pack_list.specs.Answers.{entry_of, entry_items, EntryStands}
 use Rattle.pack_list.specs.Walks.{entry_is}
 use Rattle.pack_list.specs.declared.Entry as placed
 use Rattle.block_of_byte.specs.Finding.{Found, nowhere, in_entry, in_block}
@@ -20,7 +20,7 @@ use Rattle.block_of_byte.specs.declared.Block.{Block}
 use Rattle.block_of_byte.specs.declared.Found as found
 use Rattle.block_of_byte.specs.declared.Found.TheVariants as found-answer
 use Rattle.words.specs.Words.{answer, answer_whole}
-use Rattle.capi_pack_list.specs.PackLists.{start_of, pack_start, found_words, find_answer, find_told}
+use Rattle.capi_pack_list.specs.PackLists.{pack_start, found_words, find_answer, find_told}
 
 -- ---- an entry at its places
 

@@ -1,5 +1,5 @@
 -- Numbers and refusals as the programs print them.
-use Rattle.std.specs.Prelude.{ℕ, zero, suc, ◌+◌, ◌-◌, ◌*◌, ◌/◌, ◌%◌, ◌^◌, ◌≤◌, ◌<◌, Bool, true, false, cond, List, [], ◌∷◌, ◌++◌, leb, ltb, ◌≡◌, refl, length}
+use Rattle.std.specs.Prelude.{ℕ, zero, suc, ◌-◌, ◌*◌, ◌/◌, ◌%◌, ◌^◌, ◌≤◌, ◌<◌, Bool, true, false, cond, List, [], ◌∷◌, ◌++◌, leb, ltb, ◌≡◌, refl, length}
 use Rattle.std.proofs.Common.{lit<, pow-suc, arith, lt-ltb, le-ltb, leb-true, leb-false, length-append}
 use Rattle.std.proofs.Math.Nat.{one-le-pow, pow-le-pow_right}
 use Rattle.io.specs.Digits.{last_digits, hex_digit_ascii, IsDigitCount}

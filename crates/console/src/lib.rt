@@ -1,10 +1,12 @@
 // What the programs read and print with: standard input read whole, and numbers and refusals as text in a
 // buffer.
+#![tactic(auto)]
+
 ghost use Rattle.console.specs.Put.{PutWithRoom, Next};
 ghost use Rattle.console.specs.Text.{decimal, refusal_line, refusal_alone};
 ghost use Rattle.console.specs.Inputs.{Within, Fits};
 
-use libc::STDIN_FILENO;
+use std::io::Read as _;
 
 // ---- text in a buffer
 
@@ -64,23 +66,22 @@ pub enum Read {
 }
 
 // Reads once: what there is by now, as far as the buffer holds it.
-pub fn read_part(buffer: &mut [u8]) -> Read
+pub fn read_part(rt: &impl std::io::Input, buffer: &mut [u8]) -> Read
     ensures { Within result buffer.new }
 {
-    let got = libc::read(STDIN_FILENO, buffer);
-    if got < 0 {
-        return Read::Failed;
+    match rt.reader().read(buffer) {
+        Ok(n) => Read::Bytes(n),
+        Err(_) => Read::Failed,
     }
-    Read::Bytes(io::count(got, buffer))
 }
 
 // Reads until the buffer is full or the input ends: a read may give fewer bytes than there are.
-fn fill(buffer: &mut [u8]) -> Read
+fn fill(rt: &impl std::io::Input, buffer: &mut [u8]) -> Read
     ensures { Within result buffer.new }
 {
     let mut n: usize = 0;
     while n < buffer.len() {
-        let Read::Bytes(more) = read_part(&mut buffer[n..]) else {
+        let Read::Bytes(more) = read_part(rt, &mut buffer[n..]) else {
             return Read::Failed;
         };
         if more == 0 {
@@ -101,14 +102,14 @@ pub enum Input {
 }
 
 // Reads all of standard input, where it is no longer than the buffer.
-pub fn read_input(buffer: &mut [u8]) -> Input
+pub fn read_input(rt: &impl std::io::Input, buffer: &mut [u8]) -> Input
     ensures { Fits result buffer.new }
 {
-    let Read::Bytes(n) = fill(buffer) else {
+    let Read::Bytes(n) = fill(rt, buffer) else {
         return Input::Failed;
     };
     let mut next = [0u8; 1];
-    let Read::Bytes(more) = fill(&mut next) else {
+    let Read::Bytes(more) = fill(rt, &mut next) else {
         return Input::Failed;
     };
     if more == 0 {

@@ -7,7 +7,8 @@ use Rattle.slices.specs.Bytes.{AllBytes, same_bytes}
 use Rattle.refusals.specs.Answers as refusals
 use Rattle.tlv.specs.Layout.{Record, Fits, layout, layouts, length_layout}
 use Rattle.pack.specs.Reading.{Reading, reading}
-use Rattle.pack.specs.Acceptance.{entry_of, entries_of, layouts_accepted}
+use Rattle.pack.specs.Acceptance.{entry_of, entries_of}
+use Rattle.pack.proofs.Acceptance.{layouts_accepted}
 use Rattle.pack.specs.declared.Entry.{Entry}
 use Rattle.identifier.specs.Identity.{Identity}
 use Rattle.records.specs.Record as records

@@ -11,7 +11,8 @@ use Rattle.refusals.specs.Answers.{is_result}
 use Rattle.tlv.specs.Layout.{Record, layout, layouts}
 use Rattle.pack.specs.Reading.{Reading, Ending, whole, reading}
 use Rattle.pack.specs.declared.Entry.{Entry}
-use Rattle.pack.specs.Acceptance.{AllFit, entry_of, entries_of, layouts_accepted, accepted_exactly, accepted_within}
+use Rattle.pack.specs.Acceptance.{AllFit, entry_of, entries_of}
+use Rattle.pack.proofs.Acceptance.{layouts_accepted, accepted_exactly, accepted_within}
 use Rattle.identifier.specs.Texts.{less}
 use Rattle.identifier.specs.Identity.{Identity}
 use Rattle.records.specs.Record as records

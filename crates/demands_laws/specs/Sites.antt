@@ -13,7 +13,8 @@ use Rattle.refusals.specs.Answers.{Answer, refused, granted}
 use Rattle.tlv.specs.Layout.{Record, layout, layouts}
 use Rattle.pack.specs.declared.Entry.{Entry}
 use Rattle.pack.specs.Reading.{Reading, whole, reading}
-use Rattle.pack.specs.Acceptance.{AllFit, entry_of, entries_of, layouts_accepted, accepted_layouts, accepted_within}
+use Rattle.pack.specs.Acceptance.{AllFit, entry_of, entries_of}
+use Rattle.pack.proofs.Acceptance.{layouts_accepted, accepted_layouts, accepted_within}
 use Rattle.msgpack.specs.Views.{Each, no_more, and_each}
 use Rattle.identifier.specs.Identity.{Identity}
 use Rattle.records.specs.Record as records
@@ -22,7 +23,7 @@ use Rattle.records.specs.Laws.{tag_and_value}
 use Rattle.records_model.specs.Alike.{AlikeRecordValues, same_value}
 use Rattle.records_model.specs.Record.{RecordHeld, record_in}
 use Rattle.records_model.specs.AnswersAlike.{AnswersAlike, same_refusal, first_22, second_22, both_read, NumbersAlike, SameRecord}
-use Rattle.records_model.specs.TwoSites.{record_values_alike}
+use Rattle.records_model.proofs.TwoSites.{record_values_alike}
 use Rattle.current_version.specs.Current as current
 use Rattle.current_version.specs.Current.{Role, unreadable, role_by, role_of, is_looked_at, role, value_of, placed, lookup}
 use Rattle.current_version.specs.Packs.{value_standing}

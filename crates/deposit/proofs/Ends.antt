@@ -6,7 +6,7 @@ use lib.ListN.{length}
 use Rattle.slices.specs.Logic.{absurd_numbers}
 use Rattle.pack.specs.declared.Entry.{Entry}
 use Rattle.pack.specs.Reading.{Reading, Ending, whole, refused, records, reading, counted, outcome}
-use Rattle.pack.specs.Acceptance.{accepted_reading}
+use Rattle.pack.proofs.Acceptance.{accepted_reading}
 use Rattle.deposit.specs.Packs.{first_fault, if_whole, outcome_by, deposit_reading, deposit}
 
 counted_whole : (r : Reading) (n : ℕ) → counted n ≡ outcome r → (r.ending ≡ whole) × (n ≡ length r.entries)

@@ -1,3 +1,5 @@
+pub mod Exactly
+pub mod Deposited
 pub mod Walks
 pub mod Rules
 pub mod Read

@@ -13,7 +13,8 @@ use Rattle.tlv.specs.Layout.{Record, Fits, layout, layouts, length_layout, field
 use Rattle.tlv.specs.Stands as stands
 use Rattle.tlv.specs.Stands.{record_of_layout}
 use Rattle.pack.specs.Reading.{whole, counted}
-use Rattle.pack.specs.Acceptance.{entry_of, entries_of, layouts_accepted}
+use Rattle.pack.specs.Acceptance.{entry_of, entries_of}
+use Rattle.pack.proofs.Acceptance.{layouts_accepted}
 use Rattle.records.specs.Laws.{value_there}
 use Rattle.writer.specs.Writing.{Item, value_of, item_bytes}
 use Rattle.writer_laws.specs.ReadBack.{AllBytesOf, fits, all_fit}

@@ -9,7 +9,8 @@ use Rattle.refusals.specs.Answers.{Answer, granted}
 use Rattle.tlv.specs.Layout.{Record, Fits, layout, layouts, length_layout}
 use Rattle.pack.specs.declared.Entry.{Entry}
 use Rattle.pack.specs.Reading.{Reading, whole, reading}
-use Rattle.pack.specs.Acceptance.{AllFit, entry_of, entries_of, accepted_within, accepted_layouts, layouts_accepted}
+use Rattle.pack.specs.Acceptance.{AllFit, entry_of, entries_of}
+use Rattle.pack.proofs.Acceptance.{accepted_within, accepted_layouts, layouts_accepted}
 use Rattle.identifier.specs.Identity.{Identity}
 use Rattle.records.specs.Record as records
 use Rattle.records.specs.Record.{block_tag, primary_in, read_record, at_place, record_at}
@@ -18,7 +19,7 @@ use Rattle.writer.specs.Values.{block_value}
 use Rattle.writer.specs.Writing.{block, item_bytes}
 use Rattle.deposit.specs.Exactly.{Keeps}
 use Rattle.deposit.specs.Packs.{value_at, spare_at, deposit_reading}
-use Rattle.deposit.specs.Deposited.{deposited_exactly}
+use Rattle.deposit.proofs.Deposited.{deposited_exactly}
 use Rattle.deposit_laws.specs.Calls.{behind, spare_there, value_at_lem}
 use Rattle.deposit_laws.specs.Blocks.{data_in, block_is}
 

@@ -2,14 +2,11 @@
 use Prim.Native.Nat.{ℕ, suc, ◌+◌, ◌-◌, ◌<◌, ◌≤◌}
 use mathlib.Core.Bool.{Bool, true, false, ◌&&◌}
 use mathlib.Core.List.{List, [], ◌∷◌, map}
-use mathlib.Core.Logic.{⊎_elim}
 use mathlib.Core.Option.{none}
 use mathlib.Core.Path.{◌≡◌, refl, sym, ap, ◌∙◌}
 use native.Mathlib.Numerals.{add-one}
 use native.Mathlib.Omega.{arith}
 use borrow.Author.Tests.{eq-eqb, ne_eqb}
-use denote.Enum.Declared.{tag_of}
-use types.Run.{OneOf}
 use lib.Dec.{eqb}
 use lib.ListN.{length, get_or, drop, drop_of_length-le}
 use lib.Seq.{drop-cons}
@@ -20,7 +17,6 @@ use Rattle.msgpack.specs.Pairs.{code_of, code_at, whole_pair, if_passed, inside_
 use Rattle.msgpack.specs.Views.{text_at}
 use Rattle.msgpack.specs.declared.Pair.{Pair}
 use Rattle.msgpack.specs.declared.Pair.TheVariants.{Whole, Cut, TooDeep}
-use Rattle.msgpack.specs.contracts.Pair.{the_type}
 use Rattle.deposit_rules.specs.Keys.{Key, keys_from, is_one_of, are_among}
 use Rattle.deposit_rules.specs.Codes.{Coded, is_listed, listed_tells}
 use Rattle.deposit_rules.specs.Buckets.{dot, is_name_byte, are_name_bytes}
@@ -92,9 +88,9 @@ module _ (s : List ℕ) (at left : ℕ) (more : 0 < left) where
   keys_on code value next e = ap (λ n. keys_from n s at) one_more ∙ rw (← e)
 
   -- an answer that is not `Whole`
-  pub keys_broken : (p : Pair) → pair_of p ≡ pair_at s at → OneOf (1 ∷ 2 ∷ []) (tag_of the_type p) → keys_from left s at ≡ none ∷ []
+  pub keys_broken : (p : Pair) → pair_of p ≡ pair_at s at → ((code value next : ℕ) → p ≡ Whole code value next → ⊥) → keys_from left s at ≡ none ∷ []
   unfolding keys_from
-  keys_broken (Whole code value next) e k = ⊎_elim (λ (z : 0 ≡ 1). absurd (omega arith)) (λ (z : 0 ≡ 2). absurd (omega arith)) k
+  keys_broken (Whole code value next) e k = absurd (k code value next refl)
   keys_broken Cut e k = ap (λ n. keys_from n s at) one_more ∙ rw (← e)
   keys_broken TooDeep e k = ap (λ n. keys_from n s at) one_more ∙ rw (← e)
 
@@ -109,7 +105,7 @@ pub record AmongFrom (codes : List ℕ) (all rest : List Key) : Type 0 where
   pub same : (texts : List (List ℕ)) → Coded texts codes → are_among texts all ≡ are_among texts rest
 
 module _ (codes s : List ℕ) (bytes : AllBytes s) (all : List Key) (at left : ℕ) (more : 0 < left) (so_far : AmongFrom codes all (keys_from left s at)) where
-  pub among_broken : (p : Pair) → pair_of p ≡ pair_at s at → OneOf (1 ∷ 2 ∷ []) (tag_of the_type p)
+  pub among_broken : (p : Pair) → pair_of p ≡ pair_at s at → ((code value next : ℕ) → p ≡ Whole code value next → ⊥)
       → (texts : List (List ℕ)) → Coded texts codes → false ≡ are_among texts all
   unfolding are_among
   among_broken p e k texts c = sym (so_far.same texts c ∙ ap (are_among texts) (keys_broken s at left more p e k) ∙ rw (none_of texts))

@@ -7,8 +7,6 @@ use mathlib.Core.Option.{none, some}
 use mathlib.Core.Path.{◌≡◌, refl, sym, ap, ◌∙◌}
 use native.Mathlib.Omega.{arith}
 use borrow.Author.Tests.{eq-eqb, ne_eqb}
-use denote.Enum.Declared.{tag_of}
-use types.Run.{OneOf}
 use lib.Dec.{eqb}
 use lib.ListN.{length, get_or, drop, drop_of_length-le}
 use Rattle.slices.specs.Logic.{absurd_numbers, both}
@@ -21,8 +19,8 @@ use Rattle.msgpack.specs.PairLaws.{letter_asked, told_found}
 use Rattle.msgpack.specs.Readers.{Part, counted, read_array, read_text}
 use Rattle.msgpack.specs.Views.{text_at, items_from, front_of}
 use Rattle.msgpack.specs.declared.Pair.{Pair}
+use Rattle.msgpack.specs.declared.Pair.TheVariants.{Whole}
 use Rattle.msgpack.specs.declared.Pairs.{Pairs}
-use Rattle.msgpack.specs.contracts.Pair.{the_type}
 use Rattle.identifier.specs.Texts.{all}
 use Rattle.value.specs.Header.{secondary_key, length_key}
 use Rattle.primary.specs.Parts.{identifier_key}
@@ -70,7 +68,7 @@ module _ (codes s : List ℕ) (bytes : AllBytes s) (all : List Key) (at k : ℕ)
   more : 0 < length codes - k
   more = omega arith
 
-  pub those_broken : (p : Pair) → pair_of p ≡ pair_at s at → OneOf (1 ∷ 2 ∷ []) (tag_of the_type p)
+  pub those_broken : (p : Pair) → pair_of p ≡ pair_at s at → ((code value next : ℕ) → p ≡ Whole code value next → ⊥)
       → (texts : List (List ℕ)) → Coded texts codes → false ≡ are_these texts all
   unfolding are_these
   those_broken p e o texts c =

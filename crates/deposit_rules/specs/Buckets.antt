@@ -172,7 +172,7 @@ examples =
     example (codes "abc") true ∷ example (codes "ab") false  -- 3 bytes at least
     ∷ example (replicate 63 0x61) true ∷ example (replicate 64 0x61) false  -- 63 at most
     ∷ example (codes "az09") true ∷ example (codes "a`z") false ∷ example (codes "a{z") false ∷ example (codes "a/z") false ∷ example (codes "a:z") false
-    ∷ example (codes "a_az") false ∷ example (codes "a_z") false ∷ example (codes "a,z") false  -- letters, digits, and what stands beside them
+    ∷ example (codes "aAz") false ∷ example (codes "a_z") false ∷ example (codes "a,z") false  -- letters, digits, and what stands beside them
     ∷ example (codes "a.z") true ∷ example (codes "a-z") true ∷ example (codes "a.b.z") true ∷ example (codes "a--z") true
     ∷ example (codes ".az") false ∷ example (codes "-az") false ∷ example (codes "az.") false ∷ example (codes "az-") false  -- the ends
     ∷ example (codes "a..z") false ∷ example (codes "a.-z") true ∷ example (codes "a-.z") true  -- two dots together

@@ -1,5 +1,5 @@
 -- Headers and primary parts of blocks written out, on both sides of each rule; antt computes every answer.
-use Rattle.std.specs.Prelude.{ℕ, Bool, true, false, List, [], ◌∷◌, ◌++◌, map, ◌≡◌, refl}
+use Rattle.std.specs.Prelude.{ℕ, true, false, List, [], ◌∷◌, ◌++◌, map, ◌≡◌, refl}
 use Rattle.slices.specs.Bytes.{same_bytes}
 use Rattle.endian.specs.Numbers.{little, big}
 use Rattle.endian.specs.Places.{holds, number_at}

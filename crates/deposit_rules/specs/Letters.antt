@@ -51,7 +51,7 @@ block_printed : part_keys block_tag ≡ each (codes "I")
 unfolding part_keys each codes
 block_printed = refl
 
-version_printed : part_keys version_tag ≡ each (codes "bovw_aled_ncpsmh_d")
+version_printed : part_keys version_tag ≡ each (codes "bovwAledNCpsmhD")
 unfolding part_keys each codes
 version_printed = refl
 

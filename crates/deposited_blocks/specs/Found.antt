@@ -15,7 +15,7 @@ use Rattle.pack.specs.Walk.{Yield, entry, ended, refusal, nth_of, nth_yield}
 use Rattle.identifier.specs.Identity.{same_identity, same_identity_true}
 use Rattle.records.specs.Record.{block_tag, Record, AtPlace, there, refused_at, alone, read_record, at_place, record_at}
 use Rattle.deposit.specs.Packs.{value_at, deposit_reading}
-use Rattle.deposit.specs.Deposited.{deposited_exactly}
+use Rattle.deposit.proofs.Deposited.{deposited_exactly}
 use Rattle.deposit_laws.specs.Blocks.{data_in}
 use Rattle.deposit_laws.specs.Equal.{record_bytes, IsBlock, record_there, equal_bytes}
 use Rattle.deposited_blocks.specs.Same.{Block, block_in, block_at, if_deposited, deposited_block, same_block, bytes_at, EqualBytes}

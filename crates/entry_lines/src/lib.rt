@@ -1,4 +1,6 @@
 // The lines that a listing has: one for a record of a pack, and one for their number.
+#![tactic(auto)]
+
 ghost use Rattle.std.specs.Prelude.{◌+◌, ◌^◌, ◌≤◌, ◌<◌, length};
 ghost use Rattle.console.specs.Put.{Put, PutWithRoom};
 ghost use Rattle.entry_lines.specs.Text.{hex, front, line, count_line};

@@ -6,14 +6,13 @@ use mathlib.Core.Path.{◌≡◌, refl, sym, ap, subst, ◌∙◌}
 use native.Mathlib.Omega.{arith}
 use borrow.Author.Tests.{leb-true, le-leb}
 use lib.Dec.{leb}
-use lib.ListN.{length, take, drop, length-replicate, length-append}
+use lib.ListN.{length, take, drop, length-replicate}
 use lib.Seq.{take_at}
 use Rattle.slices.specs.Bytes.{AllBytes}
 use Rattle.refusals.specs.Limit.{pack_limit}
-use Rattle.pack.specs.declared.Entry.{Entry}
 use Rattle.pack.specs.Reading.{Reading, Ending, whole, refused, Outcome, counted, alone, reading}
 use Rattle.pack.specs.Scan.{no_entry, scanned, list_after}
-use Rattle.pack.specs.Acceptance.{accepted_count}
+use Rattle.pack.proofs.Acceptance.{accepted_count}
 use Rattle.list_pack.specs.Listing.{no_entries}
 use Rattle.console.specs.Put.{Put, PutWithRoom, put_then}
 use Rattle.console.specs.Text.{refusal_line, refusal_length}
@@ -92,9 +91,6 @@ module _ (r : Reading) (n : ℕ) (f : Filled r n) where
       let h : length r.entries ≤ length no_entries = rw no_length (omega (arith, f.count, f.few)) in
       rw (f.accepted, le-leb (length r.entries) (length no_entries) h)
 
-  pub length_list : n ≤ length (list_after r no_entries)
-  length_list = rw (list_is, length-append) (omega (arith, f.count))
-
   taken : take n (list_after r no_entries) ≡ r.entries
   taken = ap (take n) list_is ∙ take_at r.entries (drop (length r.entries) no_entries) n (sym f.count)
 
@@ -113,3 +109,7 @@ refusal_put r n p {s0} {s2} {next} room e q =
     let t : refusal_line n p ≡ text r = rw e in
     let put = q.fits (omega arith) in
     (subst (λ (x : List ℕ). Put s0 0 x s2 next) t put, omega (arith, put.place, refusal_length n p))
+
+-- the line of a pack that is too long lies within the buffer
+pub too_long_within : {s0 s2 : List ℕ} {next : ℕ} → 53 ≤ length s0 → length s2 ≡ length s0 → PutWithRoom 53 s0 0 (refusal_line 1 0) s2 next → next ≤ length s2
+too_long_within room same put = omega (arith, (put.fits (omega arith)).place, refusal_length 1 0, same)

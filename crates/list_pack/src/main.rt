@@ -1,4 +1,6 @@
 // Lists a pack that it reads from standard input.
+#![tactic(auto)]
+
 ghost use Rattle.std.specs.Prelude.{◌≡◌, ◌≤◌, length, take};
 ghost use Rattle.refusals.specs.Limit.{pack_limit};
 ghost use Rattle.pack.specs.Reading.{reading};
@@ -10,7 +12,6 @@ ghost use Rattle.list_pack.specs.Listing.{no_entries};
 
 use console::{Input, put_refusal};
 use entry_lines::{put_count, put_line};
-use libc::{STDERR_FILENO, STDOUT_FILENO};
 use pack::{Entry, Scanned};
 
 // How a scan ended, and the list that was lent to it.
@@ -77,29 +78,29 @@ fn put_listing(out: &mut [u8], pack: &[u8]) -> usize
 
 // ---- the program
 
-fn show(pack: &[u8])
+fn show(rt: &impl Print, pack: &[u8])
     requires { length pack.now ≤ 65536 }
 {
     let mut out = [0u8; 133120];
     let n = put_listing(&mut out, pack);
-    io::write_all(STDOUT_FILENO, &out[..n]);
+    let _ = rt.write_all(&out[..n]);
 }
 
-fn show_too_long() {
+fn show_too_long(rt: &impl Print) {
     let mut out = [0u8; 64];
     let n = put_refusal(&mut out, 1, 0);
-    io::write_all(STDOUT_FILENO, &out[..n]);
+    let _ = rt.write_all(&out[..n]);
 }
 
-fn show_failure() {
-    io::write_all(STDERR_FILENO, b"list_pack: standard input cannot be read\n");
+fn show_failure(rt: &impl Eprint) {
+    let _ = eprintln!(rt; "list_pack: standard input cannot be read");
 }
 
-fn main() {
+fn main(rt: HostRuntime) {
     let mut buffer = [0u8; 65536];
-    match console::read_input(&mut buffer) {
-        Input::Bytes(n) => show(&buffer[..n]),
-        Input::TooLong => show_too_long(),
-        Input::Failed => show_failure(),
+    match console::read_input(&rt, &mut buffer) {
+        Input::Bytes(n) => show(&rt, &buffer[..n]),
+        Input::TooLong => show_too_long(&rt),
+        Input::Failed => show_failure(&rt),
     }
 }

@@ -9,7 +9,7 @@ use Rattle.tlv.specs.Stands.{step_stands}
 use Rattle.tlv.specs.Passing.{pass_found}
 use Rattle.tlv.specs.declared.Passed.{Passed}
 use Rattle.pack.specs.Reading.{Reading, whole, refused, records, reading, records_end, records_fault, records_on}
-use Rattle.pack.specs.Acceptance.{accepted_reading}
+use Rattle.pack.proofs.Acceptance.{accepted_reading}
 use Rattle.records.specs.Answers.{IsValue}
 use Rattle.current_version.specs.Current.{Placed, placed_by, placed}
 use Rattle.lookup_records.specs.Answers.{role_but, role_in, value_in, value_place, RoleInside, Visits}

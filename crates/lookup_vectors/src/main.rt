@@ -2,74 +2,78 @@
 // the cases, each a field: bytes with their length before them in 4 bytes. A case has three fields, a
 // title, a pack, and the names, of two fields each, a bucket and an object. A line of standard output
 // is `TITLE, BUCKET/OBJECT: FOUND`.
+#![tactic(auto)]
+
 ghost use Rattle.std.specs.Prelude.{◌+◌, ◌≤◌, length};
 
 use endian::Number;
-use libc::{STDIN_FILENO, STDOUT_FILENO};
 use lookup::{Found, Version};
 use slices::Place;
+use std::io::Read as _;
 
 // ---- what is found, printed
 
-fn say(text: &[u8]) {
-    io::write_all(STDOUT_FILENO, text);
+fn say(rt: &impl Print, text: &[u8]) {
+    let _ = rt.write_all(text);
 }
 
-fn say_number(n: usize) {
-    io::print_decimal(STDOUT_FILENO, n as u64);
+fn say_number(rt: &impl Print, n: usize) {
+    let _ = print!(rt; "{n}");
 }
 
-fn say_refusal(number: u8, place: usize) {
-    say(b"refused ");
-    say_number(number as usize);
-    say(b" at ");
-    say_number(place);
+fn say_refusal(rt: &impl Print, number: u8, place: usize) {
+    say(rt, b"refused ");
+    say_number(rt, number as usize);
+    say(rt, b" at ");
+    say_number(rt, place);
 }
 
-fn say_name(bucket: &[u8], object: &[u8]) {
-    say(bucket);
-    say(b"/");
-    say(object);
+fn say_name(rt: &impl Print, bucket: &[u8], object: &[u8]) {
+    say(rt, bucket);
+    say(rt, b"/");
+    say(rt, object);
 }
 
-fn say_version(pack: &[u8], v: Version) {
+fn say_version(rt: &impl Print, pack: &[u8], v: Version) {
     let texts = v.identifier;
-    say(slices::part(pack, texts.ulid));
-    say(b" ");
+    say(rt, slices::part(pack, texts.ulid));
+    say(rt, b" ");
     say_name(
+        rt,
         slices::part(pack, texts.bucket),
         slices::part(pack, texts.object),
     );
     if v.deleted {
-        say(b" delete marker at ");
+        say(rt, b" delete marker at ");
     } else {
-        say(b" version at ");
+        say(rt, b" version at ");
     }
-    say_number(v.start);
-    say(b" value ");
-    say_number(v.len);
-    say(b" ");
-    io::print_hex(STDOUT_FILENO, xxh64::xxh64(lookup::value(pack, v)), 16);
+    say_number(rt, v.start);
+    say(rt, b" value ");
+    say_number(rt, v.len);
+    say(rt, b" ");
+    let hash = xxh64::xxh64(lookup::value(pack, v));
+    let _ = print!(rt; "{hash:016x}");
 }
 
-fn say_found(pack: &[u8], bucket: &[u8], object: &[u8]) {
+fn say_found(rt: &impl Print, pack: &[u8], bucket: &[u8], object: &[u8]) {
     match lookup::lookup(pack, bucket, object) {
-        Found::Nothing => say(b"nothing"),
-        Found::Current(v) => say_version(pack, v),
-        Found::Inadmissible => say(b"refused 20"),
-        Found::TooLong => say_refusal(1, 0),
-        Found::Fault(f, at) => say_refusal(tlv::number(f), at),
-        Found::Unreadable(f, at) => say_refusal(records::number(f), at),
+        Found::Nothing => say(rt, b"nothing"),
+        Found::Current(v) => say_version(rt, pack, v),
+        Found::Inadmissible => say(rt, b"refused 20"),
+        Found::TooLong => say_refusal(rt, 1, 0),
+        Found::Fault(f, at) => say_refusal(rt, tlv::number(f), at),
+        Found::Unreadable(f, at) => say_refusal(rt, records::number(f), at),
     }
 }
 
-fn say_line(title: &[u8], pack: &[u8], bucket: &[u8], object: &[u8]) {
-    say(title);
-    say(b", ");
-    say_name(bucket, object);
-    say(b": ");
-    say_found(pack, bucket, object);
-    say(b"\n");
+fn say_line(rt: &impl Print, title: &[u8], pack: &[u8], bucket: &[u8], object: &[u8]) {
+    say(rt, title);
+    say(rt, b", ");
+    say_name(rt, bucket, object);
+    say(rt, b": ");
+    say_found(rt, pack, bucket, object);
+    say(rt, b"\n");
 }
 
 // ---- the cases
@@ -96,12 +100,13 @@ fn field(s: &[u8], at: usize) -> Place
     Place { start, len }
 }
 
-fn names(title: &[u8], pack: &[u8], s: &[u8]) {
+fn names(rt: &impl Print, title: &[u8], pack: &[u8], s: &[u8]) {
     let mut at = 0;
     while at < s.len() {
         let bucket = field(s, at);
         let object = field(s, bucket.start + bucket.len);
         say_line(
+            rt,
             title,
             pack,
             slices::part(s, bucket),
@@ -115,11 +120,12 @@ fn names(title: &[u8], pack: &[u8], s: &[u8]) {
     }
 }
 
-fn say_case(s: &[u8]) {
+fn say_case(rt: &impl Print, s: &[u8]) {
     let title = field(s, 0);
     let pack = field(s, title.start + title.len);
     let list = field(s, pack.start + pack.len);
     names(
+        rt,
         slices::part(s, title),
         slices::part(s, pack),
         slices::part(s, list),
@@ -128,9 +134,9 @@ fn say_case(s: &[u8]) {
 
 // ---- the input
 
-fn read_number() -> usize {
+fn read_number(rt: &impl Input) -> usize {
     let mut bytes = [0u8; 4];
-    io::read_full(STDIN_FILENO, &mut bytes);
+    let _ = rt.reader().read_exact(&mut bytes);
     let Number::Read(n) = endian::read_big(&bytes, 0, 4) else {
         return 0;
     };
@@ -138,23 +144,23 @@ fn read_number() -> usize {
 }
 
 // A case is read into the buffer, if it holds it.
-fn run_case(buffer: &mut [u8]) {
-    let n = read_number();
+fn run_case(rt: &(impl Input + Print), buffer: &mut [u8]) {
+    let n = read_number(rt);
     if n <= buffer.len() {
-        io::read_full(STDIN_FILENO, &mut buffer[0..n]);
-        say_case(&buffer[0..n]);
+        let _ = rt.reader().read_exact(&mut buffer[0..n]);
+        say_case(rt, &buffer[0..n]);
     }
 }
 
-fn run(buffer: &mut [u8]) {
-    let mut left = read_number();
+fn run(rt: &(impl Input + Print), buffer: &mut [u8]) {
+    let mut left = read_number(rt);
     while 0 < left {
-        run_case(buffer);
+        run_case(rt, buffer);
         left -= 1;
     }
 }
 
-fn main() {
+fn main(rt: HostRuntime) {
     let mut buffer = io::large_buffer();
-    run(&mut buffer);
+    run(&rt, &mut buffer);
 }

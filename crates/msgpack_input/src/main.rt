@@ -1,27 +1,43 @@
 // Passes over the MessagePack item at the front of standard input, of up to 65,536 bytes, and prints
 // `whole` and its length, `cut` or `too deep`.
-use libc::{STDERR_FILENO, STDIN_FILENO, STDOUT_FILENO};
-use msgpack::Passed;
+#![tactic(auto)]
 
-fn main() {
+ghost use Rattle.io.specs.Counts.{IsPrefixLen};
+
+use msgpack::Passed;
+use std::io::Read as _;
+
+// Reads until the buffer is full, the input ends or a read fails, and answers how many bytes it put at the front.
+fn read_full(rt: &impl Input, buffer: &mut [u8]) -> usize
+    ensures { IsPrefixLen result buffer.new }
+{
+    let mut done = 0;
+    while done < buffer.len() {
+        match rt.reader().read(&mut buffer[done..]) {
+            Ok(0) | Err(_) => break,
+            Ok(n) => done += n,
+        }
+    }
+    done
+}
+
+fn main(rt: HostRuntime) {
     let mut buffer = io::large_buffer();
-    let n = io::read_full(STDIN_FILENO, &mut buffer);
+    let n = read_full(&rt, &mut buffer);
     let mut more = [0u8; 1];
-    if io::read_full(STDIN_FILENO, &mut more) > 0 {
-        io::write_all(STDERR_FILENO, b"more than 65536 bytes\n");
+    if read_full(&rt, &mut more) > 0 {
+        let _ = eprintln!(rt; "more than 65536 bytes");
         return;
     }
     match msgpack::pass_over(&buffer[..n]) {
         Passed::Whole(len) => {
-            io::write_all(STDOUT_FILENO, b"whole ");
-            io::print_decimal(STDOUT_FILENO, len as u64);
-            io::write_all(STDOUT_FILENO, b"\n");
+            let _ = println!(rt; "whole {len}");
         }
         Passed::Cut => {
-            io::write_all(STDOUT_FILENO, b"cut\n");
+            let _ = println!(rt; "cut");
         }
         Passed::TooDeep => {
-            io::write_all(STDOUT_FILENO, b"too deep\n");
+            let _ = println!(rt; "too deep");
         }
     }
 }

@@ -21,7 +21,6 @@ use Rattle.pipe.specs.Step.{GoingFits, fits_going, none_before, take_fit, standi
 use Rattle.pipe.specs.States.{record_at, progress_in, progress_of}
 use Rattle.pipe.specs.declared.State.{State}
 use Rattle.pipe.specs.declared.Phase.{Phase}
-use Rattle.pipe.specs.declared.Phase.TheVariants as Phase
 use Rattle.pipe.proofs.Bulk.{value_within, value_past, value_open, header_within, header_past, header_open}
 
 small : pipe_limit < 2 ^ 64

@@ -6,9 +6,7 @@ use Rattle.pack.specs.Reading.{Ending, whole, refused, Reading}
 use Rattle.pipe.specs.Taking as pipe
 use Rattle.pipe.specs.Taking.{Progress, going, ended}
 use Rattle.pipe.specs.declared.Verdict.{Verdict}
-use Rattle.pipe.specs.declared.Verdict.TheVariants as Verdict
 use Rattle.pipe.specs.declared.Fed.{Fed}
-use Rattle.pipe.specs.declared.Fed.TheVariants as Fed
 
 -- the words of an entry, and of all
 abbrev pub words_in : Entry → List ℕ

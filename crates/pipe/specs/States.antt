@@ -4,10 +4,8 @@ use Rattle.xxh64.specs.Parts.{hashing_of}
 use Rattle.pipe.specs.Taking as pipe
 use Rattle.pipe.specs.Taking.{Going, in_header, in_value, Progress, going, refused, ended, Notice, wanted, complete, refusal, over, malformed, Call}
 use Rattle.pipe.specs.declared.Phase.{Phase}
-use Rattle.pipe.specs.declared.Phase.TheVariants as Phase
 use Rattle.pipe.specs.declared.State.{State}
 use Rattle.pipe.specs.declared.Event.{Event}
-use Rattle.pipe.specs.declared.Event.TheVariants as Event
 use Rattle.pipe.specs.declared.Taken.{Taken}
 
 -- where the record starts, and how many were complete before it

@@ -2,6 +2,8 @@
 // Standard input, which tests/record_vectors.py makes, is how many vectors there are, and for each its
 // title, its kind, its bytes, and what else the kind takes. A line of standard output is the title and
 // what is found.
+#![tactic(auto)]
+
 use crate::input::{read_field, read_number};
 use crate::show::say;
 
@@ -36,43 +38,43 @@ const FIND_BLOCK: usize = 10;
 
 const NAMES: usize = 11;
 
-fn run_kind(kind: usize, bytes: &[u8]) {
+fn run_kind(rt: &(impl Input + Print), kind: usize, bytes: &[u8]) {
     match kind {
-        IDENTIFIER => readings::composite(bytes),
-        VALUE => readings::header(bytes),
-        BLOCK => readings::block(bytes),
-        VERSION => readings::version(bytes),
-        DELETE => readings::version_delete(bytes),
-        RECORD => readings::record(bytes, read_number()),
-        AT => readings::at_place(bytes, read_number()),
-        PARTS => readings::parts(bytes),
-        WALK => readings::walked(bytes, read_number()),
-        PACK_LIST => pack_lists::entries(bytes),
-        FIND_BLOCK => pack_lists::found(bytes, read_number()),
-        NAMES => names::run(bytes),
-        _ => writings::run(kind, bytes),
+        IDENTIFIER => readings::composite(rt, bytes),
+        VALUE => readings::header(rt, bytes),
+        BLOCK => readings::block(rt, bytes),
+        VERSION => readings::version(rt, bytes),
+        DELETE => readings::version_delete(rt, bytes),
+        RECORD => readings::record(rt, bytes, read_number(rt)),
+        AT => readings::at_place(rt, bytes, read_number(rt)),
+        PARTS => readings::parts(rt, bytes),
+        WALK => readings::walked(rt, bytes, read_number(rt)),
+        PACK_LIST => pack_lists::entries(rt, bytes),
+        FIND_BLOCK => pack_lists::found(rt, bytes, read_number(rt)),
+        NAMES => names::run(rt, bytes),
+        _ => writings::run(rt, kind, bytes),
     }
 }
 
-fn run_vector(buffer: &mut [u8]) {
-    let title = read_field(buffer);
-    say(&buffer[0..title]);
-    let kind = read_number();
-    let n = read_field(buffer);
-    run_kind(kind, &buffer[0..n]);
-    say(b"\n");
+fn run_vector(rt: &(impl Input + Print), buffer: &mut [u8]) {
+    let title = read_field(rt, buffer);
+    say(rt, &buffer[0..title]);
+    let kind = read_number(rt);
+    let n = read_field(rt, buffer);
+    run_kind(rt, kind, &buffer[0..n]);
+    say(rt, b"\n");
 }
 
 // Below 65,536 of them, so that a wrong input too comes to an end.
-fn run(buffer: &mut [u8]) {
-    let mut left = read_number() % 65536;
+fn run(rt: &(impl Input + Print), buffer: &mut [u8]) {
+    let mut left = read_number(rt) % 65536;
     while 0 < left {
-        run_vector(buffer);
+        run_vector(rt, buffer);
         left -= 1;
     }
 }
 
-fn main() {
+fn main(rt: HostRuntime) {
     let mut buffer = io::large_buffer();
-    run(&mut buffer);
+    run(&rt, &mut buffer);
 }

@@ -6,45 +6,51 @@ use held_identifier::Identifier;
 
 // ULID, bucket and object, with slashes behind them in the arrays, where they play no part; and the
 // lengths told of bucket and object, which may be wrong.
-pub(crate) fn read_identifier() -> Identifier {
+pub(crate) fn read_identifier(rt: &impl Input) -> Identifier {
     let mut ulid = [b'/'; 26];
     let mut bucket = [b'/'; 63];
     let mut object = [b'/'; 1024];
-    read_field(&mut ulid);
-    read_field(&mut bucket);
-    read_field(&mut object);
+    read_field(rt, &mut ulid);
+    read_field(rt, &mut bucket);
+    read_field(rt, &mut object);
     Identifier {
         ulid,
         bucket,
-        bucketlen: read_number(),
+        bucketlen: read_number(rt),
         object,
-        objectlen: read_number(),
+        objectlen: read_number(rt),
     }
 }
 
 // The identifier of the texts, and whether the other is the same.
-fn say_made(r: held_identifier::Reading, other: Identifier) {
+fn say_made(rt: &impl Print, r: held_identifier::Reading, other: Identifier) {
     if r.valid {
-        show::say_identifier(r.id);
-        say_number(b'=', held_identifier::same_identifier(r.id, other) as usize);
+        show::say_identifier(rt, r.id);
+        say_number(
+            rt,
+            b'=',
+            held_identifier::same_identifier(r.id, other) as usize,
+        );
     } else {
-        say_refusal(18);
+        say_refusal(rt, 18);
     }
 }
 
 // Behind the ULID follow a bucket and an object, which may be a byte too long, and the other identifier;
 // at last, whether this has the name.
-pub(crate) fn run(ulid: &[u8]) {
+pub(crate) fn run(rt: &(impl Input + Print), ulid: &[u8]) {
     let mut bucket = [0u8; 64];
     let mut object = [0u8; 1025];
-    let b = read_field(&mut bucket);
-    let o = read_field(&mut object);
-    let other = read_identifier();
+    let b = read_field(rt, &mut bucket);
+    let o = read_field(rt, &mut object);
+    let other = read_identifier(rt);
     say_made(
+        rt,
         held_identifier::from_parts(ulid, &bucket[0..b], &object[0..o]),
         other,
     );
     say_number(
+        rt,
         b'~',
         held_identifier::has_name(other, &bucket[0..b], &object[0..o]) as usize,
     );

@@ -1,5 +1,7 @@
 // Lists a pack of any size as it comes from standard input: a line as each record completes, and at
 // the end their number, or the refusal after the lines before it.
+#![tactic(auto)]
+
 ghost use Rattle.std.specs.Prelude.{◌≡◌, true, ◌≤◌, length};
 ghost use Rattle.console.specs.Put.{Put};
 ghost use Rattle.entry_lines.specs.Text.{lines};
@@ -11,7 +13,6 @@ ghost use Rattle.stream_pack.specs.Text.{verdict_line};
 
 use console::{Read, put_refusal};
 use entry_lines::{put_count, put_line};
-use libc::{STDERR_FILENO, STDOUT_FILENO};
 use pipe::{Event, Phase, State};
 
 // The state after a part, and where the lines of the records that it completes end.
@@ -62,30 +63,27 @@ fn put_verdict(out: &mut [u8], state: State) -> usize
 
 // ---- the program
 
-fn show_part(state: State, part: &[u8]) -> State
+fn show_part(rt: &impl Print, state: State, part: &[u8]) -> State
     requires { (fits pipe_limit (progress_of state) ≡ true) × (length part.now ≤ 65536) }
     ensures { fits pipe_limit (progress_of result) ≡ true }
 {
     let mut out = [0u8; 131072];
     let listed = put_part(&mut out, state, part);
     let n = listed.end;
-    io::write_all(STDOUT_FILENO, &out[..n]);
+    let _ = rt.write_all(&out[..n]);
     listed.state
 }
 
-fn show_verdict(state: State)
+fn show_verdict(rt: &impl Print, state: State)
     requires { fits pipe_limit (progress_of state) ≡ true }
 {
     let mut out = [0u8; 64];
     let n = put_verdict(&mut out, state);
-    io::write_all(STDOUT_FILENO, &out[..n]);
+    let _ = rt.write_all(&out[..n]);
 }
 
-fn show_failure() {
-    io::write_all(
-        STDERR_FILENO,
-        b"stream_pack: standard input cannot be read\n",
-    );
+fn show_failure(rt: &impl Eprint) {
+    let _ = eprintln!(rt; "stream_pack: standard input cannot be read");
 }
 
 fn is_refused(state: State) -> bool {
@@ -100,30 +98,30 @@ fn is_refused(state: State) -> bool {
 
 // Each turn takes a byte at least, and the byte past the limit is refused, so that the turns do not
 // run out.
-fn stream(buffer: &mut [u8])
+fn stream(rt: &(impl Input + Print + Eprint), buffer: &mut [u8])
     requires { length buffer.old ≤ 65536 }
 {
     let mut state = pipe::fresh();
     let mut turns: usize = 0;
     while turns <= pipe::LIMIT {
-        let Read::Bytes(n) = console::read_part(buffer) else {
-            show_failure();
+        let Read::Bytes(n) = console::read_part(rt, buffer) else {
+            show_failure(rt);
             return;
         };
         if n == 0 {
-            show_verdict(state);
+            show_verdict(rt, state);
             return;
         }
-        state = show_part(state, &buffer[..n]);
+        state = show_part(rt, state, &buffer[..n]);
         if is_refused(state) {
-            show_verdict(state);
+            show_verdict(rt, state);
             return;
         }
         turns += 1;
     }
 }
 
-fn main() {
+fn main(rt: HostRuntime) {
     let mut buffer = [0u8; 65536];
-    stream(&mut buffer);
+    stream(&rt, &mut buffer);
 }

@@ -7,15 +7,14 @@ use Rattle.std.proofs.Math.Path.{ap}
 use Rattle.std.proofs.Math.ListN.{length, drop, length-drop}
 use Rattle.std.proofs.lemmas.List.{drop-append-le}
 use Rattle.std.proofs.Math.Seq.{length-take-le, append_snoc}
-use Rattle.slices.specs.Bytes.{AllBytes}
-use Rattle.slices.specs.Logic.{absurd_numbers}
 use Rattle.tlv.specs.Found.{Found, end, found, fault, step, step_none}
 use Rattle.tlv.specs.Stands.{step_stands}
 use Rattle.tlv.specs.declared.RecordHeader.{RecordHeader}
 use Rattle.pack.specs.declared.Entry.{Entry}
 use Rattle.pack.specs.Reading.{Reading, whole, refused, records, reading, entry_at, records_end, records_fault, records_found}
-use Rattle.pack.specs.Acceptance.{Fills, after, accepted_within, accepted_reading, accepted_fills}
-use Rattle.truncation.specs.Steps.{cut_number, record_left, record_cut}
+use Rattle.pack.specs.Acceptance.{Fills, after}
+use Rattle.pack.proofs.Acceptance.{accepted_within, accepted_reading}
+use Rattle.truncation.specs.Steps.{cut_number, record_left}
 
 -- ---- where a cut falls, in a pack with these entries
 
@@ -54,16 +53,16 @@ pub record CutOff (limit : ℕ) (s : List ℕ) (n : ℕ) : Type 0 where
 -- ---- the first record, by the entries that are read
 
 -- the first entry is e, es follow
-record First (at : ℕ) (s : List ℕ) (e : Entry) (es : List Entry) : Type 0 where
-  header : RecordHeader
-  there : step s ≡ found header
-  entry : entry_at at header ≡ e
-  others : (records (at + (32 + header.length)) 0 (drop (32 + header.length) s)).entries ≡ es
+pub record First (at : ℕ) (s : List ℕ) (e : Entry) (es : List Entry) : Type 0 where
+  pub header : RecordHeader
+  pub there : step s ≡ found header
+  pub entry : entry_at at header ≡ e
+  pub others : (records (at + (32 + header.length)) 0 (drop (32 + header.length) s)).entries ≡ es
 
 none_read : {A : Type 0} (e : Entry) (es : List Entry) → ◌≡◌ {A = List Entry} [] (e ∷ es) → A
 none_read e es p = absurd (omega (arith, ap length p))
 
-first : (at : ℕ) (s : List ℕ) (e : Entry) (es : List Entry) → (records at 0 s).entries ≡ e ∷ es → First at s e es
+pub first : (at : ℕ) (s : List ℕ) (e : Entry) (es : List Entry) → (records at 0 s).entries ≡ e ∷ es → First at s e es
 first at s e es read = go (step s) refl
   where
     go : (f : Found) → step s ≡ f → First at s e es
@@ -80,9 +79,9 @@ fills_rise at [] stop f = omega arith
 fills_rise at (e ∷ es) stop f = omega (arith, fills_rise (at + (32 + e.length)) es stop f.1)
 
 -- x is a front of x ++ y; the entries `before` fill its first m bytes, and in x ++ y the entries `behind` follow
-record Passes (before behind : List Entry) (at m : ℕ) (x y : List ℕ) : Type 0 where
-  front : records at 0 x ≡ after before (records (at + m) 0 (drop m x))
-  whole_pack : (records (at + m) 0 (drop m x ++ y)).entries ≡ behind
+pub record Passes (before behind : List Entry) (at m : ℕ) (x y : List ℕ) : Type 0 where
+  pub front : records at 0 x ≡ after before (records (at + m) 0 (drop m x))
+  pub whole_pack : (records (at + m) 0 (drop m x ++ y)).entries ≡ behind
 
 passes : (before behind : List Entry) (at m : ℕ) (x y : List ℕ) → (records at 0 (x ++ y)).entries ≡ before ++ behind → Fills at before (at + m) → m ≤ length x
     → Passes before behind at m x y
@@ -112,11 +111,11 @@ passes (e ∷ before) behind at m x y read fills inside =
 -- ---- an accepted pack, cut between records or inside one
 
 module _ (limit : ℕ) (s : List ℕ) (accepted : (reading limit s).ending ≡ whole) (n : ℕ) (inside : n ≤ length s) where
-  within : length (take n s) ≤ limit
+  pub within : length (take n s) ≤ limit
   within = omega (arith, length-take-le n s inside, accepted_within limit s accepted)
 
   -- the records before a place that is not behind the cut
-  before_cut : (before behind : List Entry) (m : ℕ) → before ++ behind ≡ (reading limit s).entries → Fills 0 before m → m ≤ n
+  pub before_cut : (before behind : List Entry) (m : ℕ) → before ++ behind ≡ (reading limit s).entries → Fills 0 before m → m ≤ n
       → Passes before behind 0 m (take n s) (drop n s)
   before_cut before behind m entries fills here =
       passes before behind 0 m (take n s) (drop n s)
@@ -131,20 +130,6 @@ module _ (limit : ℕ) (s : List ℕ) (accepted : (reading limit s).ending ≡ w
       let none : length (drop n (take n s)) ≡ 0 = length-drop n (take n s) ∙ omega (arith, length-take-le n s inside) in
       rw (le-ltb limit (length (take n s)) within, p.front, records_end (0 + n) (drop n (take n s)) (step_none (drop n (take n s)) none), append-nil)
 
-  pub cut_inside : (c : InsideRecord (reading limit s).entries n)
-      → reading limit (take n s) ≡ record { entries = c.before; ending = refused (cut_number (n - c.broken.start)) c.broken.start }
-  unfolding reading
-  cut_inside c =
-      let start : ℕ = c.broken.start in
-      let p = before_cut c.before (c.broken ∷ c.behind) start c.entries c.fills (omega (arith, c.begun)) in
-      let left : List ℕ = drop start (take n s) in
-      let f = first (0 + start) (left ++ drop n s) c.broken c.behind p.whole_pack in
-      let so_many : length left ≡ n - start = length-drop start (take n s) ∙ ap (λ (k : ℕ). k - start) (length-take-le n s inside) in
-      let size : c.broken.length ≡ f.header.length = ap (λ (e : Entry). e.length) (sym f.entry) in
-      let cut : step left ≡ fault (cut_number (length left)) = record_cut left (drop n s) f.header (step_stands (left ++ drop n s) f.header f.there)
-      (omega (arith, c.begun)) (omega (arith, c.unfinished, c.begun)) in
-      rw (le-ltb limit (length (take n s)) within, p.front, records_fault (0 + start) left (cut_number (length left)) cut, append-nil, so_many, zero-add)
-
 -- ---- a cut falls in exactly one of the two ways
 
 fills_more : (at : ℕ) (es : List Entry) (stop : ℕ) (e : Entry) → Fills at es stop → e.start ≡ stop → Fills at (es ++ (e ∷ [])) (stop + (32 + e.length))
@@ -152,7 +137,7 @@ fills_more at [] stop e f here = (here ∙ sym f, ap (λ (p : ℕ). p + (32 + e.
 fills_more at (d ∷ es) stop e f here = (f.0, fills_more (at + (32 + d.length)) es stop e f.1 here)
 
 -- the records passed end at `at`, those to come fill the bytes from there to `stop`
-falls : (n : ℕ) (passed es : List Entry) (at stop : ℕ) → Fills 0 passed at → Fills at es stop → at ≤ n → n ≤ stop
+pub falls : (n : ℕ) (passed es : List Entry) (at stop : ℕ) → Fills 0 passed at → Fills at es stop → at ≤ n → n ≤ stop
     → BetweenRecords (passed ++ es) n ⊎ InsideRecord (passed ++ es) n
 falls n passed [] at stop f g low high = inl (record { before = passed; behind = []; entries = refl; fills = subst (Fills 0 passed) (omega arith) f })
 falls n passed (e ∷ es) at stop f g low high =
@@ -176,17 +161,3 @@ falls n passed (e ∷ es) at stop f g low high =
       unfinished = omega (arith, ltb-true n (at + (32 + e.length)) q, g.0);
     })
     go true p false q more = subst Falls (append_snoc passed e es) (more (ltb-false n (at + (32 + e.length)) q))
-
--- THE THEOREM
-pub cut_off : (limit : ℕ) (s : List ℕ) (n : ℕ) → AllBytes s → (reading limit s).ending ≡ whole → n ≤ length s → CutOff limit s n
-cut_off limit s n bytes e inside =
-    let between = cut_between limit s e n inside in
-    let broken = cut_inside limit s e n inside in
-    record {
-      either_way = falls n [] (reading limit s).entries 0 (length s) refl (accepted_fills limit s (accepted_within limit s e) bytes e) (omega arith) inside;
-      not_both = λ b c. absurd_numbers (let clash = ap (λ (r : Reading). r.ending) (sym (between b) ∙ broken c) in cc);
-      accepted = between;
-      broken_refused = broken;
-      front_accepted = λ c. cut_between limit s e c.broken.start (omega (arith, c.begun))
-          (record { before = c.before; behind = c.broken ∷ c.behind; entries = c.entries; fills = c.fills });
-    }

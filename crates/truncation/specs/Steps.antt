@@ -1,9 +1,9 @@
 -- What a reader finds at the start of a record of which only a front is left: the bytes x, where x ++ y was there.
-use Rattle.std.specs.Prelude.{ℕ, ◌+◌, ◌-◌, ◌%◌, ◌≤◌, ◌<◌, Bool, true, false, cond, List, ◌++◌, ◌≡◌, refl, ltb, drop}
+use Rattle.std.specs.Prelude.{ℕ, ◌+◌, ◌-◌, ◌%◌, ◌≤◌, ◌<◌, cond, List, ◌++◌, ◌≡◌, ltb, drop}
 use Rattle.std.proofs.Common.{sym, ◌∙◌, length-drop}
 use Rattle.std.proofs.Math.Path.{ap}
 use native.Mathlib.Omega.{arith}
-use borrow.Author.Tests.{ltb-true, ltb-false, lt-ltb, le-ltb, eq-eqb, ne_eqb}
+use borrow.Author.Tests.{lt-ltb, le-ltb, eq-eqb, ne_eqb}
 use Rattle.std.proofs.Math.ListN.{length, take}
 use Rattle.std.proofs.lemmas.List.{take-append-le, drop-append-le}
 use Rattle.refusals.specs.Sheet.{lowest}
@@ -58,7 +58,7 @@ module _ (x y : List ℕ) where
       })
 
       -- its header is left, and less than its value
-      value_cut : length x < 32 + h.length → step x ≡ fault 7
+      pub value_cut : length x < 32 + h.length → step x ≡ fault 7
       unfolding step header_rows value_rows lowest
       value_cut short =
           let some : length x ≡ 0 → ⊥ = λ e. omega arith in
@@ -74,16 +74,8 @@ module _ (x y : List ℕ) where
           )
 
 -- less than a header is left
-header_cut : (x : List ℕ) → 0 < length x → length x < 32 → step x ≡ fault 2
+pub header_cut : (x : List ℕ) → 0 < length x → length x < 32 → step x ≡ fault 2
 unfolding step header_rows value_rows lowest
 header_cut x begun short =
     let some : length x ≡ 0 → ⊥ = λ e. omega arith in
     rw (ne_eqb (length x) 0 some, lt-ltb (length x) 32 short)
-
--- something of the record is left, and not all
-pub record_cut : (x y : List ℕ) (h : RecordHeader) → Stands (x ++ y) h → 0 < length x → length x < 32 + h.length → step x ≡ fault (cut_number (length x))
-record_cut x y h stands begun short = go (ltb (length x) 32) refl
-  where
-    go : (t : Bool) → ltb (length x) 32 ≡ t → step x ≡ fault (cond t 2 7)
-    go true e = header_cut x begun (ltb-true (length x) 32 e)
-    go false e = value_cut x y h stands (ltb-false (length x) 32 e) short

@@ -1,7 +1,6 @@
 // The kinds of vectors that write a head. Where it is to stand and its number follow the bytes.
 use crate::input::read_number;
 use crate::show::{say, say_number};
-use libc::STDOUT_FILENO;
 use msgpack_heads::Written;
 
 const TEXT: usize = 10;
@@ -23,31 +22,31 @@ fn write(kind: usize, out: &mut [u8], at: usize, n: usize) -> Written {
     }
 }
 
-fn say_written(w: Written) {
+fn say_written(rt: &impl Print, w: Written) {
     match w {
-        Written::Next(n) => say_number(b'@', n),
-        Written::NoRoom => say(b" no room"),
+        Written::Next(n) => say_number(rt, b'@', n),
+        Written::NoRoom => say(rt, b" no room"),
     }
-    say(b" ");
+    say(rt, b" ");
 }
 
-fn say_byte(b: u8) {
-    io::print_hex(STDOUT_FILENO, b as u64, 2);
+fn say_byte(rt: &impl Print, b: u8) {
+    let _ = print!(rt; "{b:02x}");
 }
 
-fn say_bytes(s: &[u8]) {
+fn say_bytes(rt: &impl Print, s: &[u8]) {
     let mut i = 0;
     while i < s.len() {
-        say_byte(s[i]);
+        say_byte(rt, s[i]);
         i += 1;
     }
 }
 
 // What becomes of ten bytes EE.
-pub(crate) fn run(kind: usize) {
+pub(crate) fn run(rt: &(impl Input + Print), kind: usize) {
     let mut out = [0xeeu8; 10];
-    let at = read_number();
-    let n = read_number();
-    say_written(write(kind, &mut out, at, n));
-    say_bytes(&out);
+    let at = read_number(rt);
+    let n = read_number(rt);
+    say_written(rt, write(kind, &mut out, at, n));
+    say_bytes(rt, &out);
 }

@@ -16,7 +16,7 @@ use Rattle.refusals.specs.Limit.{pack_limit}
 use Rattle.pack.specs.Reading as pack
 use Rattle.pack.specs.Reading.{Ending, whole, refused, reading, Outcome, counted}
 use Rattle.pack.specs.Scan.{fitted}
-use Rattle.pack.specs.Acceptance.{accepted_count}
+use Rattle.pack.proofs.Acceptance.{accepted_count}
 use Rattle.identifier.specs.Identity.{sizes}
 use Rattle.current_version.specs.Current as current-answer
 use Rattle.current_version.specs.Current.{Placed, placed, value_of, Version, version_of, filtered, readability, answer_of, current, answer_in, is_name, lookup}

@@ -1,5 +1,7 @@
 // Tells of each version record of a name whether it is current, and if not, why. The name is the program's argument; the pack is
 // read from standard input, as the listing reads it.
+#![tactic(auto)]
+
 ghost use Rattle.std.specs.Prelude.{◌≡◌, ◌+◌, ◌*◌, ◌≤◌, length};
 ghost use Rattle.io.specs.Counts.{IsPrefixLen};
 ghost use Rattle.current_version.specs.Current.{is_name};
@@ -9,7 +11,8 @@ ghost use Rattle.why_current.specs.Rows.{reason_text, row_text, rows_text, no_ro
 
 use console::{Input, put, put_decimal, put_refusal};
 use explanation::Explained;
-use libc::{STDERR_FILENO, STDOUT_FILENO};
+use std::env::FillError;
+use std::rt::Env;
 
 // ---- the text
 
@@ -109,63 +112,58 @@ fn is_name(name: &[u8]) -> bool
 
 // The program's one argument, and how long it is. None, several, or one that is longer than any name are no
 // bytes, which are no name.
-fn read_name(name: &mut [u8]) -> usize
+fn read_name(rt: &impl Env, name: &mut [u8]) -> usize
     ensures { IsPrefixLen result name.new }
 {
-    if os::arg_count() != 2 {
-        return 0;
+    let mut other = [0u8; 1];
+    match rt.arg(2, &mut other) {
+        Err(FillError::NotPresent) => rt.arg(1, name).unwrap_or(0),
+        Ok(_) | Err(FillError::TooLong) => 0,
     }
-    os::arg(1, name)
 }
 
 // ---- the program
 
-fn write_out(text: &[u8]) {
-    if !io::write_all(STDOUT_FILENO, text) {
-        io::write_all(
-            STDERR_FILENO,
-            b"why_current: standard output cannot be written\n",
-        );
+fn write_out(rt: &(impl Print + Eprint), text: &[u8]) {
+    if rt.write_all(text).is_err() {
+        let _ = eprintln!(rt; "why_current: standard output cannot be written");
     }
 }
 
-fn show(name: &[u8], pack: &[u8])
+fn show(rt: &(impl Print + Eprint), name: &[u8], pack: &[u8])
     requires { length pack.now ≤ 65536 }
 {
     let mut out = [0u8; 110592];
     let n = put_explanation(&mut out, name, pack);
-    write_out(&out[..n]);
+    write_out(rt, &out[..n]);
 }
 
-fn show_too_long() {
+fn show_too_long(rt: &(impl Print + Eprint)) {
     let mut out = [0u8; 64];
     let n = put_refusal(&mut out, 1, 0);
-    write_out(&out[..n]);
+    write_out(rt, &out[..n]);
 }
 
-fn show_failure() {
-    io::write_all(
-        STDERR_FILENO,
-        b"why_current: standard input cannot be read\n",
-    );
+fn show_failure(rt: &impl Eprint) {
+    let _ = eprintln!(rt; "why_current: standard input cannot be read");
 }
 
-fn read_and_show(name: &[u8]) {
+fn read_and_show(rt: &(impl std::io::Input + Print + Eprint), name: &[u8]) {
     let mut buffer = [0u8; 65536];
-    match console::read_input(&mut buffer) {
-        Input::Bytes(n) => show(name, &buffer[..n]),
-        Input::TooLong => show_too_long(),
-        Input::Failed => show_failure(),
+    match console::read_input(rt, &mut buffer) {
+        Input::Bytes(n) => show(rt, name, &buffer[..n]),
+        Input::TooLong => show_too_long(rt),
+        Input::Failed => show_failure(rt),
     }
 }
 
 // A name that breaks the rules is refused before a pack is read, and in every pack: in an empty one too.
-fn main() {
+fn main(rt: HostRuntime) {
     let mut name = [0u8; 1088];
-    let n = read_name(&mut name);
+    let n = read_name(&rt, &mut name);
     if is_name(&name[..n]) {
-        read_and_show(&name[..n]);
+        read_and_show(&rt, &name[..n]);
     } else {
-        show(&name[..n], b"");
+        show(&rt, &name[..n], b"");
     }
 }

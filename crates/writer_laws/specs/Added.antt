@@ -18,7 +18,8 @@ use Rattle.refusals.specs.Answers.{granted}
 use Rattle.tlv.specs.Layout.{Record, Fits, head, layout, layouts, length_head, length_layout}
 use Rattle.pack.specs.declared.Entry.{Entry}
 use Rattle.pack.specs.Reading.{Reading, whole, reading, shift}
-use Rattle.pack.specs.Acceptance.{AllFit, entry_of, entries_of, after, layouts_accepted, accepted_layouts, behind}
+use Rattle.pack.specs.Acceptance.{AllFit, entry_of, entries_of, after}
+use Rattle.pack.proofs.Acceptance.{layouts_accepted, accepted_layouts, behind}
 use Rattle.msgpack_heads.specs.Heads.{text_head, map_head}
 use Rattle.identifier.specs.Identity.{Identity, slash}
 use Rattle.identifier.specs.Composite.{colon, composite_text}

@@ -12,7 +12,8 @@ use Rattle.refusals.specs.Answers.{Answer, refused, granted, is_result}
 use Rattle.tlv.specs.Layout.{Fits, layouts, length_layout}
 use Rattle.pack.specs.declared.Entry.{Entry}
 use Rattle.pack.specs.Reading.{whole, reading}
-use Rattle.pack.specs.Acceptance.{AllFit, entry_of, entries_of, layouts_accepted}
+use Rattle.pack.specs.Acceptance.{AllFit, entry_of, entries_of}
+use Rattle.pack.proofs.Acceptance.{layouts_accepted}
 use Rattle.primary.specs.Parts as primary
 use Rattle.pack_list.specs.Lists as list
 use Rattle.records.specs.Record.{Record, there, read_record, at_place, record_at, of_version, of_version_delete, of_pack_list}

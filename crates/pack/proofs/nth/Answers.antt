@@ -1,7 +1,8 @@
 -- The walker's answers are the reading's, by the place that it stands at.
 use Rattle.std.proofs.Common.{◌≡◌, ◌∙◌, ap, add-one, arith}
 use Rattle.refusals.specs.Limit.{pack_limit}
-use Rattle.pack.specs.Walk.{Call, place_from, place_of, turn_at, walk_yields}
+use Rattle.pack.specs.Walk.{Call, place_from, place_of, turn_at}
+use Rattle.pack.proofs.Walk.{walk_yields}
 use Rattle.pack.proofs.nth.Goals as goal
 use Rattle.pack.proofs.nth.Goals.{After-next-walked}
 
