@@ -17,7 +17,8 @@ use Rattle.records_model.specs.Written.{held_alone, version_reads_back}
 use Rattle.writer.specs.Values.{block_value, version_part}
 use Rattle.writer.specs.Writing.{Item, block, version, version_delete, pack_list, deletion, item_bytes, admitted}
 use Rattle.writer_laws.specs.Encoded.{IdentityBytes, version_part_encodes}
-use Rattle.writer_laws.specs.Meaning.{held_of, AreBytes, item_reads}
+use Rattle.writer_laws.specs.Meaning.{held_of, AreBytes}
+use Rattle.writer_laws.proofs.Meaning.{item_reads}
 use Rattle.writer_laws.specs.Calls.{record_for, records_of}
 use Rattle.writer_laws.specs.ReadBack.{fits}
 use Rattle.deposit_rules.specs.Buckets.{is_bucket_name}

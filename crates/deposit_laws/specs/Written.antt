@@ -36,7 +36,8 @@ use Rattle.writer.specs.Writing.{Item, block, version, version_delete, pack_list
 use Rattle.writer.specs.Limits.{content_within}
 use Rattle.writer_laws.specs.Encoded.{IdentityBytes, part_value_encodes, block_header_encodes, block_part_encodes, version_part_encodes, delete_part_encodes}
 use Rattle.writer_laws.specs.Short.{part_value_short, block_header_short, block_part_short, version_part_short, delete_part_short}
-use Rattle.writer_laws.specs.Meaning.{held_of, AreBytes, item_reads}
+use Rattle.writer_laws.specs.Meaning.{held_of, AreBytes}
+use Rattle.writer_laws.proofs.Meaning.{item_reads}
 use Rattle.writer_laws.specs.ReadBack.{means}
 use Rattle.deposit_rules.specs.Keys.{keys_of, is_one_of, are_among, are_these}
 use Rattle.deposit_rules.specs.Letters.{part_keys, written_keys}
