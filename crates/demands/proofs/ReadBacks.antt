@@ -21,7 +21,8 @@ use Rattle.records_model.specs.Record as held
 use Rattle.writer.specs.Writing.{Item, value_of, answer_of, written, buffer_after}
 use Rattle.writer.specs.declared.Written.{Written}
 use Rattle.writer_laws.specs.Meaning.{held_of}
-use Rattle.writer_laws.specs.Added.{Tells, IsAdded, value_last, added_means, added_extends}
+use Rattle.writer_laws.specs.Added.{Tells, IsAdded, value_last, added_extends}
+use Rattle.writer_laws.proofs.Added.{added_means}
 use Rattle.demands.specs.Answers.{of_front, read_back_of, read_behind, ReadInside, ReadBackHolds}
 use Rattle.demands.specs.declared.ReadBack.{ReadBack}
 use Rattle.demands.specs.declared.ReadBack.TheVariants.{Read, Short, Inadmissible}

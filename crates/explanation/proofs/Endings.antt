@@ -24,7 +24,7 @@ use Rattle.lookup.specs.Answers.{version_in, found_of, FoundInside}
 use Rattle.lookup.specs.declared.Version as declared-version
 use Rattle.lookup.specs.declared.Found as lookup-code
 use Rattle.lookup.specs.declared.Found.TheVariants as found-answer
-use Rattle.explanation.specs.Reasons.{Line, line_of, versions_of, lines_of, rows_of, Answer, explained, refused_at, alone, explain_by, explain}
+use Rattle.explanation.specs.Reasons.{Line, line_of, versions_of, lines_of, rows_of, explained, explain_by, explain}
 use Rattle.explanation.specs.Answers.{found_in, outcome, explained_of, told_after, fitted_lines, ulid_found, UlidTold}
 use Rattle.explanation.specs.declared.Explained.{Explained}
 use Rattle.explanation.specs.declared.Explained.TheVariants as explained-answer
