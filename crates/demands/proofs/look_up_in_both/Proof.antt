@@ -2,7 +2,7 @@
 use borrow.Author.Rules.{rules}
 use Rattle.slices.specs.Bytes.{AllBytes}
 use Rattle.refusals.specs.Limit.{pack_limit}
-use Rattle.current_version.specs.Bytes.{rearranged_packs_answer_alike}
+use Rattle.current_version.proofs.Bytes.{rearranged_packs_answer_alike}
 use Rattle.demands_laws.specs.Sites.{sites_look_up_alike}
 use Rattle.demands.proofs.look_up_in_both.Statement.{statement}
 use Rattle.demands.proofs.look_up_in_both.Tie as tie
