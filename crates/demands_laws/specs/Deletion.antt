@@ -19,7 +19,8 @@ use Rattle.writer_laws.specs.Calls.{record_for}
 use Rattle.writer_laws.specs.Refusals.{written_exactly}
 use Rattle.current_version.specs.Current.{Answer, is_name, lookup}
 use Rattle.current_version.specs.Packs.{ReadablePack, SameAnswer}
-use Rattle.current_version.specs.Bytes.{taken_out_of, taken_out_lem, deletion_answers_as_taken_out}
+use Rattle.current_version.specs.Bytes.{taken_out_of}
+use Rattle.current_version.proofs.Bytes.{taken_out_lem, deletion_answers_as_taken_out}
 use Rattle.writer_laws.specs.Added.{record_appended, total, value_within, before_bytes, item_handed, item_fits}
 
 -- ---- the identifier that a call deletes: the one that a part handed in reads as, or the one that was handed in
