@@ -1,7 +1,7 @@
 -- `demands::look_up_in_both` meets its contract: both answers are the definition's, and neither order nor encoding plays a part.
 use Rattle.slices.specs.Bytes.{AllBytes}
 use Rattle.refusals.specs.Limit.{pack_limit}
-use Rattle.current_version.specs.Bytes.{rearranged_packs_answer_alike}
+use Rattle.current_version.proofs.Bytes.{rearranged_packs_answer_alike}
 use Rattle.demands_laws.specs.Sites.{sites_look_up_alike}
 use Rattle.demands.proofs.look_up_in_both.Goals as goal
 
