@@ -94,7 +94,7 @@ module _ (test : Identity → Bool) where
           (λ t.
           let is : w ≡ v = same_version (sym t.1 ∙ e) in
           first (filtered_some test (version_of q) v (f ∙ sym t.1 ∙ e))
-          (λ p x m h. rw (← is) (not_less_transitive (ulid_of w) (ulid_of u) (ulid_of x) t.0 ((best_greatest test) (rest u g) p x m h))))
+          (λ p x m h. rw (← is) (not_less_transitive (ulid_of w) (ulid_of u) (ulid_of x) t.0 (best_greatest test (rest u g) p x m h))))
           (better_two w u)
 
   pub found_best : {ps : List Placed} {v : Version} → Best test ps v → best test ps ≡ some v
@@ -108,13 +108,13 @@ module _ (test : Identity → Bool) where
       after none q = rw q
       after (some w) q =
           let d = best_found c.back w q in
-          rw (q, c.later d.at w ((best_member test) d) d.offers)
+          rw (q, c.later d.at w (best_member test d) d.offers)
 
       ahead : (a : Option Version) → best test c.front ≡ a → better (best test c.front) (some v) ≡ some v
       ahead none q = rw q
       ahead (some w) q =
           let d = best_found c.front w q in
-          rw (q, c.earlier d.at w ((best_member test) d) d.offers)
+          rw (q, c.earlier d.at w (best_member test d) d.offers)
 
   -- none exactly where no version passes
   pub none_best : (ps : List Placed) → ((p : Placed) (v : Version) → Memᴰ p ps → Passes test (version_of p) v → ⊥) → best test ps ≡ none
@@ -124,4 +124,4 @@ module _ (test : Identity → Bool) where
       go none e = e
       go (some v) e =
           let c = best_found ps v e in
-          absurd (h c.at v ((best_member test) c) c.offers)
+          absurd (h c.at v (best_member test c) c.offers)

@@ -15,7 +15,7 @@ use Rattle.current_version.specs.Packs.{standing, lookup_layouts, Readable, all_
 
 module _ (limit : ℕ) (s : List ℕ) where
   pub readable_exactly : AllBytes s → ReadablePack limit s ↔ ((rs : List Record) × Readable limit rs × (layouts rs ≡ s))
-  readable_exactly bytes = ((pack_readable limit s) bytes, λ a. (readable_pack limit s) a.0 a.1 a.2)
+  readable_exactly bytes = (pack_readable limit s bytes, λ a. readable_pack limit s a.0 a.1 a.2)
 
 -- ---- the records, told without their places
 

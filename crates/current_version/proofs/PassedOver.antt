@@ -56,7 +56,7 @@ same_roles other = others
 same_roles (unreadable n) = unreadables refl
 
 module _ (limit from by : ℕ) where
-  placed_moved : (at to : ℕ) (r : Record) → moved from by at ≡ to → (Moved limit from by) (placed_by limit at r.tag r.value) (placed_by limit to r.tag r.value)
+  placed_moved : (at to : ℕ) (r : Record) → moved from by at ≡ to → Moved limit from by (placed_by limit at r.tag r.value) (placed_by limit to r.tag r.value)
   placed_moved at to r e = record { role = same_roles (role limit r.tag r.value); start = e; value = refl }
 
   behind : (at : ℕ) (rs : List Record) → from ≤ at → Each (Moved limit from by) (standing limit at rs) (standing limit (at + by) rs)
@@ -102,7 +102,7 @@ module _ (limit : ℕ) (front back : List Record) (r : Record) (bucket object : 
   unfolding lookup
   no_name s e = rw e
 
-  pub passed_over : is_looked_at r.tag ≡ false → (PassedOver limit front back r bucket object)
+  pub passed_over : is_looked_at r.tag ≡ false → PassedOver limit front back r bucket object
   unfolding role
   passed_over looked fit within = by (is_name bucket object) refl
     where
@@ -129,5 +129,5 @@ module _ (limit : ℕ) (front back : List Record) (r : Record) (bucket object : 
           )
           (answers_alike ◌≡◌ (λ p q. moved from size p ≡ q) ◌≡◌ (around limit from size 0 front back (omega arith)) bucket object)
 
-  pub pack_list_passed_over : r.tag ≡ pack_list_tag → (PassedOver limit front back r bucket object)
+  pub pack_list_passed_over : r.tag ≡ pack_list_tag → PassedOver limit front back r bucket object
   pack_list_passed_over tag = passed_over (rw tag pack_list_not_looked_at)
