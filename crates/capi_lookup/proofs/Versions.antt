@@ -55,10 +55,6 @@ module _ (told ulid row text : List ℕ) where
 
 -- ---- the lookup
 
--- and what is said of memory lent for the search
-pub and_scratch : {A B C D : Type 0} → A × (B × C) → D → A × (B × (C × D))
-and_scratch h d = (h.0, (h.1.0, (h.1.1, d)))
-
 -- with room for what is found, only a refusal of the lookup is answered with more than 0
 pub scratch_answered : (a : Answer) (words bytes r : ℕ) (old new : List ℕ) → r ≡ current_answer a words bytes
     → ScratchAfter (is_refusal a) old new → 4 ≤ words → 26 ≤ bytes → ScratchAfter (not (eqb r 0)) old new
