@@ -23,11 +23,12 @@ use Rattle.records.specs.Laws.{tag_and_value}
 use Rattle.records_model.specs.Alike.{AlikeRecordValues, same_value}
 use Rattle.records_model.specs.Record.{RecordHeld, record_in}
 use Rattle.records_model.specs.AnswersAlike.{AnswersAlike, same_refusal, first_22, second_22, both_read, NumbersAlike, SameRecord}
-use Rattle.records_model.specs.TwoSites.{record_values_alike}
+use Rattle.records_model.proofs.TwoSites.{record_values_alike}
 use Rattle.current_version.specs.Current as current
 use Rattle.current_version.specs.Current.{Role, unreadable, role_by, role_of, is_looked_at, role, value_of, placed, lookup}
 use Rattle.current_version.specs.Packs.{value_standing}
-use Rattle.current_version.specs.Alike.{AlikeRoles, versions, deletions, others, unreadables, AlikePlaced, AlikeAnswers, lookups_alike}
+use Rattle.current_version.specs.Alike.{AlikeRoles, versions, deletions, others, unreadables, AlikePlaced, AlikeAnswers}
+use Rattle.current_version.proofs.Alike.{lookups_alike}
 
 -- ---- packs alike
 

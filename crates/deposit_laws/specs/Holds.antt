@@ -1,8 +1,8 @@
 -- What the premises of these theorems hold of, and the theorem over calls of the writer said of records that are made from an identifier.
 use Rattle.std.specs.Prelude.{ℕ, ◌+◌, ◌^◌, ◌≤◌, ◌<◌, Bool, true, ◌&&◌, List, [], ◌∷◌, ◌++◌, ◌≡◌, refl, length}
-use Rattle.std.proofs.Common.{sym, ap, subst, ◌∙◌, arith, length-append}
+use Rattle.std.proofs.Common.{sym, ap, ◌∙◌, arith, length-append}
 use Rattle.slices.specs.Bytes.{AllBytes}
-use Rattle.refusals.specs.Answers.{Answer, granted, is_result}
+use Rattle.refusals.specs.Answers.{granted, is_result}
 use Rattle.tlv.specs.Layout.{layouts, length_layout}
 use Rattle.pack.specs.Acceptance.{entry_of}
 use Rattle.msgpack_model.specs.Bytes.{encoding_bytes}
@@ -15,9 +15,10 @@ use Rattle.records_model.specs.Header.{Held}
 use Rattle.records_model.specs.Record.{RecordHeld, with_held, is_held}
 use Rattle.records_model.specs.Written.{held_alone, version_reads_back}
 use Rattle.writer.specs.Values.{block_value, version_part}
-use Rattle.writer.specs.Writing.{Item, block, version, version_delete, pack_list, deletion, item_bytes, admitted}
+use Rattle.writer.specs.Writing.{Item, block, version, version_delete, pack_list, deletion, item_bytes}
 use Rattle.writer_laws.specs.Encoded.{IdentityBytes, version_part_encodes}
-use Rattle.writer_laws.specs.Meaning.{held_of, AreBytes, item_reads}
+use Rattle.writer_laws.specs.Meaning.{held_of}
+use Rattle.writer_laws.proofs.Meaning.{item_reads}
 use Rattle.writer_laws.specs.Calls.{record_for, records_of}
 use Rattle.writer_laws.specs.ReadBack.{fits}
 use Rattle.deposit_rules.specs.Buckets.{is_bucket_name}

@@ -1,5 +1,5 @@
 -- What our writer writes may be deposited, where the bucket is such a name, and the primary part handed in keeps rules 23 and 24 (request 9).
-use Rattle.std.specs.Prelude.{ℕ, suc, ◌+◌, ◌^◌, ◌≤◌, ◌<◌, Bool, false, ◌≡◌, length}
+use Rattle.std.specs.Prelude.{ℕ, suc, ◌^◌, ◌≤◌, ◌<◌, Bool, false, ◌≡◌, length}
 use Rattle.std.proofs.Math.Bool.{true}
 use mathlib.Core.List.{List, [], ◌∷◌, ◌++◌, append-nil}
 use Rattle.std.proofs.Math.Option.{Option, none, some}
@@ -11,7 +11,7 @@ use Rattle.refusals.specs.Sheet.{lowest}
 use Rattle.refusals.specs.Answers.{Answer, refused, granted}
 use Rattle.msgpack.specs.Readers.{plus}
 use Rattle.msgpack.specs.Views.{byte_view, SameUnder, both_found, Both, both as both_there, Each, and_each, no_more}
-use Rattle.msgpack.specs.Lookup.{Under, found}
+use Rattle.msgpack.specs.Lookup.{Under, found, missing, broken}
 use Rattle.msgpack_forms.specs.Items.{all_short}
 use Rattle.msgpack_model.specs.Values.{Value, Text, Integer, Array, Map, no_values_lem, value, no_pairs, pair}
 use Rattle.msgpack_model.specs.Encoding.{Encodes}
@@ -36,7 +36,8 @@ use Rattle.writer.specs.Writing.{Item, block, version, version_delete, pack_list
 use Rattle.writer.specs.Limits.{content_within}
 use Rattle.writer_laws.specs.Encoded.{IdentityBytes, part_value_encodes, block_header_encodes, block_part_encodes, version_part_encodes, delete_part_encodes}
 use Rattle.writer_laws.specs.Short.{part_value_short, block_header_short, block_part_short, version_part_short, delete_part_short}
-use Rattle.writer_laws.specs.Meaning.{held_of, AreBytes, item_reads}
+use Rattle.writer_laws.specs.Meaning.{held_of, AreBytes}
+use Rattle.writer_laws.proofs.Meaning.{item_reads}
 use Rattle.writer_laws.specs.ReadBack.{means}
 use Rattle.deposit_rules.specs.Keys.{keys_of, is_one_of, are_among, are_these}
 use Rattle.deposit_rules.specs.Letters.{part_keys, written_keys}
@@ -147,9 +148,12 @@ module _ (i : Identity) (d : List ℕ) (v : is_valid i ≡ true) (bytes : AllByt
         items (some []) (both_there r) = absurd (omega (arith, each_length r))
         items (some (m ∷ [])) (both_there (and_each z r)) = rw (keys_read z)
         items (some (m ∷ n ∷ ms)) (both_there r) = absurd (omega (arith, each_length r))
+        items none z = elim z [ ]
 
         by : (o : Under (List ℕ)) → SameUnder Shows o (found (Array (value inner no_values_lem))) → is_one_map_under (length_key ∷ []) o ≡ true
         by (found l) (both_found y) = items (byte_view.items l) (bytes_alike.items y)
+        by missing z = elim z [ ]
+        by broken z = elim z [ ]
 
     identifier_alone : has_identifier_alone (block_part i) ≡ true
     unfolding has_identifier_alone are_these same_bytes
@@ -158,6 +162,8 @@ module _ (i : Identity) (d : List ℕ) (v : is_valid i ≡ true) (bytes : AllByt
       where
         by : (o : Under (List ℕ)) → SameUnder Shows o (found (Text (composite_text i))) → is_text_under o ≡ true
         by (found t) (both_found y) = ap is_there (bytes_alike.text y)
+        by missing z = elim z [ ]
+        by broken z = elim z [ ]
 
     block_rows : (bucket : List ℕ) → is_bucket_name bucket ≡ true → lowest (profile_rows block_tag 0 (block_value i d) (block_part i) bucket) ≡ none
     unfolding are_among is_one_of are_these same_bytes written_keys part_keys is_block_plain

@@ -18,13 +18,13 @@ use Rattle.pack.specs.Reading.{reading, whole}
 use Rattle.pack.specs.Scan.{fitted}
 use Rattle.current_version.specs.Current as current-answer
 use Rattle.current_version.specs.Current.{Placed, placed, Version, lookup}
-use Rattle.current_version.specs.Exactly.{lookup_exactly}
+use Rattle.current_version.proofs.Exactly.{lookup_exactly}
 use Rattle.lookup_records.specs.Walk.{placed_from, Checked, walk_start, walk_all}
 use Rattle.lookup.specs.Answers.{version_in, found_of, FoundInside}
 use Rattle.lookup.specs.declared.Version as declared-version
 use Rattle.lookup.specs.declared.Found as lookup-code
 use Rattle.lookup.specs.declared.Found.TheVariants as found-answer
-use Rattle.explanation.specs.Reasons.{Line, line_of, versions_of, lines_of, rows_of, Answer, explained, refused_at, alone, explain_by, explain}
+use Rattle.explanation.specs.Reasons.{Line, line_of, versions_of, lines_of, rows_of, explained, explain_by, explain}
 use Rattle.explanation.specs.Answers.{found_in, outcome, explained_of, told_after, fitted_lines, ulid_found, UlidTold}
 use Rattle.explanation.specs.declared.Explained.{Explained}
 use Rattle.explanation.specs.declared.Explained.TheVariants as explained-answer

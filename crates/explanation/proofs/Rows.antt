@@ -2,12 +2,8 @@
 use Prim.Native.Nat.{ℕ}
 use mathlib.Core.Bool.{Bool, true, false}
 use mathlib.Core.List.{List, [], ◌∷◌}
-use mathlib.Core.Logic.{⊎_elim}
 use mathlib.Core.Option.{Option, none, some}
 use mathlib.Core.Path.{◌≡◌, refl, sym, ap}
-use native.Mathlib.Omega.{arith}
-use denote.Enum.Declared.{tag_of}
-use types.Run.{OneOf}
 use borrow.Author.Tests.{eq-eqb, ne_eqb}
 use Rattle.slices.specs.Places.{part_at}
 use Rattle.slices.specs.declared.Place.{Place}
@@ -21,12 +17,10 @@ use Rattle.lookup_records.specs.Answers.{role_in}
 use Rattle.lookup_records.specs.declared.Role as declared
 use Rattle.lookup_records.specs.declared.Role.TheVariants as role-answer
 use Rattle.lookup_records.specs.declared.Visited.{Visited}
-use Rattle.lookup_records.specs.contracts.Role as role-proofs
 use Rattle.lookup.specs.Answers.{placed_in}
 use Rattle.lookup.specs.declared.Version as declared-version
 use Rattle.lookup.specs.declared.Found as lookup
 use Rattle.lookup.specs.declared.Found.TheVariants as found-answer
-use Rattle.lookup.specs.contracts.Found as found-proofs
 use Rattle.explanation.specs.Reasons.{first_deletion, first_version, reason_of, line_of, is_named, row_of, rows_of}
 use Rattle.explanation.specs.Answers.{found_in, version_at, own_line, standing_line, count_of, lines_for}
 
@@ -36,15 +30,12 @@ module _ (s : List ℕ) (found : lookup.Found) (start : ℕ) (delete_flag : Bool
   abbrev row : List ℕ
   row = row_of (standing_line start delete_flag (found_in s found))
 
-  pub none_current : OneOf (0 ∷ 2 ∷ 3 ∷ 4 ∷ 5 ∷ []) (tag_of found-proofs.the_type found) → row_of (own_line start delete_flag) ≡ row
+  pub none_current : ((v : declared-version.Version) → found ≡ found-answer.Current v → ⊥) → row_of (own_line start delete_flag) ≡ row
   none_current z = ap (λ o. row_of (standing_line start delete_flag o)) (sym (by found z))
     where
-      by : (f : lookup.Found) → OneOf (0 ∷ 2 ∷ 3 ∷ 4 ∷ 5 ∷ []) (tag_of found-proofs.the_type f) → found_in s f ≡ none
+      by : (f : lookup.Found) → ((v : declared-version.Version) → f ≡ found-answer.Current v → ⊥) → found_in s f ≡ none
       by found-answer.Nothing k = refl
-      by (found-answer.Current v) k =
-          ⊎_elim (λ (e : 1 ≡ 0). absurd (omega arith))
-          (⊎_elim (λ (e : 1 ≡ 2). absurd (omega arith))
-          (⊎_elim (λ (e : 1 ≡ 3). absurd (omega arith)) (⊎_elim (λ (e : 1 ≡ 4). absurd (omega arith)) (λ (e : 1 ≡ 5). absurd (omega arith))))) k
+      by (found-answer.Current v) k = absurd (k v refl)
       by found-answer.Inadmissible k = refl
       by found-answer.TooLong k = refl
       by (found-answer.Fault f at) k = refl
@@ -83,9 +74,9 @@ module _ (ps : List Placed) (found : Option Version) (start : ℕ) (i : Identity
 -- ---- of the record at a place
 
 -- a role other than `Version` tells none
-no_version : (s : List ℕ) (start : ℕ) (value : List ℕ) (r : declared.Role) → OneOf (1 ∷ 2 ∷ 3 ∷ []) (tag_of role-proofs.the_type r) → version_by start value (role_in s r) ≡ none
-no_version s start value (role-answer.Version primary t deleted) k =
-    ⊎_elim (λ (e : 0 ≡ 1). absurd (omega arith)) (⊎_elim (λ (e : 0 ≡ 2). absurd (omega arith)) (λ (e : 0 ≡ 3). absurd (omega arith))) k
+no_version : (s : List ℕ) (start : ℕ) (value : List ℕ) (r : declared.Role)
+    → ((primary : Place) (t : Texts) (deleted : Bool) → r ≡ role-answer.Version primary t deleted → ⊥) → version_by start value (role_in s r) ≡ none
+no_version s start value (role-answer.Version primary t deleted) k = absurd (k primary t deleted refl)
 no_version s start value (role-answer.Deletion t) k = refl
 no_version s start value role-answer.Other k = refl
 no_version s start value (role-answer.Unreadable f) k = refl
@@ -94,7 +85,7 @@ module _ (s bucket object : List ℕ) (r : declared.Role) where
   abbrev count : ℕ
   count = count_of (filtered (is_named bucket object) (version_by 0 [] (role_in s r)))
 
-  pub none_counted : OneOf (1 ∷ 2 ∷ 3 ∷ []) (tag_of role-proofs.the_type r) → 0 ≡ count
+  pub none_counted : ((primary : Place) (t : Texts) (deleted : Bool) → r ≡ role-answer.Version primary t deleted → ⊥) → 0 ≡ count
   unfolding filtered
   none_counted z = rw (no_version s 0 [] r z)
 
@@ -111,7 +102,7 @@ module _ (ps : List Placed) (found : Option Version) (s bucket object : List ℕ
   abbrev rows : List ℕ
   rows = rows_of (lines_for ps found (filtered (is_named bucket object) (version_of (placed_in s at v))))
 
-  pub none_told : OneOf (1 ∷ 2 ∷ 3 ∷ []) (tag_of role-proofs.the_type v.role) → [] ≡ rows
+  pub none_told : ((primary : Place) (t : Texts) (deleted : Bool) → v.role ≡ role-answer.Version primary t deleted → ⊥) → [] ≡ rows
   unfolding filtered version_of rows_of
   none_told z = rw (no_version s at _ v.role z)
 

@@ -11,8 +11,9 @@ use Rattle.pack.specs.Reading.{reading}
 use Rattle.current_version.specs.Current as current-answer
 use Rattle.current_version.specs.Current.{Placed, placed, Version, version_of, filtered, answer_of, lookup}
 use Rattle.current_version.specs.Best.{filtered_some, some_filtered, same_version}
-use Rattle.current_version.specs.Exactly.{has_name_lem, name_had, none_exactly, current_exactly, Answers, lookup_exactly}
-use Rattle.explanation.specs.Reasons.{Reason, current, current_marker, older, repeated, removed, Line, reason_of, line_of, is_named, with_first, versions_of, lines_of, Answer, explained, refused_at, alone, explain_by, explain}
+use Rattle.current_version.specs.Exactly.{has_name_lem, name_had, Answers}
+use Rattle.current_version.proofs.Exactly.{none_exactly, current_exactly, lookup_exactly}
+use Rattle.explanation.specs.Reasons.{Reason, current, current_marker, older, repeated, removed, Line, reason_of, line_of, is_named, with_first, versions_of, lines_of, explained, refused_at, alone, explain_by, explain}
 use Rattle.explanation.specs.Starts.{pack_rises, one_there}
 use Rattle.explanation.specs.Facts.{Says, OfName, told_role, reason_holds, holds_reason}
 

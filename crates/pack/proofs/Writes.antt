@@ -6,7 +6,7 @@ use mathlib.Core.Path.{◌≡◌, refl, sym, ap, ◌∙◌}
 use native.Mathlib.Omega.{arith}
 use borrow.Author.Tests.{leb-true}
 use lib.Dec.{leb, ltb}
-use lib.ListN.{length, drop, set, length-set, get_or}
+use lib.ListN.{length, drop, set, get_or}
 use lib.Seq.{drop-cons, set_at}
 use Rattle.refusals.specs.Limit.{pack_limit}
 use Rattle.pack.specs.declared.Entry.{Entry}
@@ -23,10 +23,6 @@ module _ (s : List ℕ) where
   abbrev pub written_to : ℕ → List Entry → List Entry
   written_to zero list = list
   written_to (suc i) list = set (written_to i list) i (listed_at s (place_after i 0)).entry
-
-  pub length_written : (i : ℕ) (list : List Entry) → length (written_to i list) ≡ length list
-  length_written zero list = refl
-  length_written (suc i) list = length-set (written_to i list) i (listed_at s (place_after i 0)).entry ∙ length_written i list
 
   length_first : (i at : ℕ) → length (first_entries i s at) ≡ i
   unfolding first_entries

@@ -15,7 +15,7 @@ use Rattle.msgpack.specs.Lookup.{key_at, last_where, last_value}
 use Rattle.msgpack.specs.Pairs.{times_where, times_of}
 use Rattle.msgpack.specs.Views.{repeats, text_at, items_from}
 use Rattle.msgpack_model.specs.Values.{Value, Integer, Text, Binary, Array, Map, no_values_lem, value, Pairs, no_pairs, pair}
-use Rattle.msgpack_model.specs.Encoding.{fixstr, str8, bin8, bin16, fixarray, array16, fixmap, map16, positive_fixint, negative_fixint, uint8, uint16, text, binary, Encodes, scalar, array, map, none, next, no_pair, next_pair}
+use Rattle.msgpack_model.specs.Encoding.{fixstr, str8, bin8, fixmap, text, binary, Encodes, scalar, map, no_pair, next_pair}
 use Rattle.msgpack_model.specs.Writers.{number_written}
 use Rattle.identifier.specs.Texts.{member, all}
 use Rattle.identifier.specs.Ulid.{alphabet, is_character, is_ulid}
@@ -29,11 +29,9 @@ use Rattle.primary.specs.Parts as part
 use Rattle.pack_list.specs.Lists as list
 use Rattle.pack_list.specs.Lists.{entries_key, pack_key, source_key, stored_key, lengths_key, deltas_key, start_key, range, each_of, list_at, range_at, entry_at, entries_under, any_of, entry_repeats, list_repeats, all_of, sum, is_filled}
 use Rattle.records.specs.Record.{block_tag, pack_list_tag, is_known, block, pack_list, contents, told_rows, read_record}
-use Rattle.records_model.specs.Alike.{Alike, same, maps, arrays, embedded, next as next_alike, no_values_alike, next_pair as next_pair_alike, no_pairs_alike, swapped, and_further, AlikeRecordValues, same_value}
+use Rattle.records_model.specs.Alike.{Alike, same, maps, next_pair as next_pair_alike, swapped, AlikeRecordValues, same_value}
 use Rattle.records_model.specs.Record.{RecordHeld, record_in}
-use Rattle.records_model.specs.Written.{plain_header, held_alone}
-use Rattle.records_model.specs.AnswersAlike.{AnswersAlike, SameRecord}
-use Rattle.records_model.specs.TwoSites.{records_alike}
+use Rattle.records_model.specs.Written.{held_alone}
 
 -- ---- texts in two widths
 
@@ -54,31 +52,31 @@ herd = 0x68 ∷ 0x65 ∷ 0x72 ∷ 0x64 ∷ []
 abbrev pub scan : List ℕ
 scan = 0x73 ∷ []
 
-abbrev secondary : List ℕ
+abbrev pub secondary : List ℕ
 secondary = 0x61 ∷ 0x62 ∷ []
 
-abbrev limit : ℕ
+abbrev pub limit : ℕ
 limit = 4294967295
 
 -- ---- the primary part: {I: {b, o, v}} and {I: {o, b, v}}
 
-abbrev here_identity : Pairs
+abbrev pub here_identity : Pairs
 here_identity = pair (Text bucket_key) (Text herd) (pair (Text object_key) (Text scan) (pair (Text ulid_key) (Text ulid) no_pairs))
 
-abbrev here_part : Value
+abbrev pub here_part : Value
 here_part = Map (pair (Text identifier_key) (Map here_identity) no_pairs)
 
-abbrev there_part : Value
+abbrev pub there_part : Value
 there_part = Map (pair (Text identifier_key)
     (Map (pair (Text object_key) (Text scan) (pair (Text bucket_key) (Text herd) (pair (Text ulid_key) (Text ulid) no_pairs)))) no_pairs)
 
-abbrev identity_bytes : List ℕ
+abbrev pub identity_bytes : List ℕ
 identity_bytes = 0x83 ∷ narrow bucket_key ++ narrow herd ++ narrow object_key ++ narrow scan ++ narrow ulid_key ++ narrow ulid
 
-abbrev here_part_bytes : List ℕ
+abbrev pub here_part_bytes : List ℕ
 here_part_bytes = 0x81 ∷ narrow identifier_key ++ identity_bytes
 
-abbrev there_part_bytes : List ℕ
+abbrev pub there_part_bytes : List ℕ
 there_part_bytes = 0x81 ∷ narrow identifier_key ++ 0xde ∷ 0 ∷ 3 ∷ wide object_key ++ narrow scan ++ narrow bucket_key ++ wide herd ++ narrow ulid_key ++ narrow ulid
 
 -- ---- the header: {s: [{l, c}], e} and {e, s: [{c, l}]}
@@ -86,20 +84,20 @@ there_part_bytes = 0x81 ∷ narrow identifier_key ++ 0xde ∷ 0 ∷ 3 ∷ wide o
 abbrev here_secondary : Pairs
 here_secondary = pair (Text length_key) (Integer (plus 2)) (pair (Text compression_key) (Integer (plus 7)) no_pairs)
 
-abbrev here_header : Value
+abbrev pub here_header : Value
 here_header = Map (pair (Text secondary_key) (Array (value (Map here_secondary) no_values_lem)) (pair (Text primary_key) (Binary here_part_bytes) no_pairs))
 
-abbrev there_header : Value
+abbrev pub there_header : Value
 there_header =
     Map (pair (Text primary_key) (Binary there_part_bytes)
     (pair (Text secondary_key) (Array
     (value (Map (pair (Text compression_key) (Integer (plus 7)) (pair (Text length_key) (Integer (plus 2)) no_pairs))) no_values_lem)) no_pairs))
 
-abbrev here_bytes : List ℕ
+abbrev pub here_bytes : List ℕ
 here_bytes = 0x82 ∷ narrow secondary_key ++ 0x91 ∷ 0x82 ∷ narrow length_key ++ 2 ∷ narrow compression_key ++ 7 ∷ narrow primary_key
     ++ 0xc4 ∷ length here_part_bytes ∷ here_part_bytes
 
-abbrev there_bytes : List ℕ
+abbrev pub there_bytes : List ℕ
 there_bytes = 0x82 ∷ wide primary_key ++ 0xc5 ∷ 0 ∷ length there_part_bytes ∷ there_part_bytes ++ narrow secondary_key
     ++ 0x91 ∷ 0x82 ∷ narrow compression_key ++ 7 ∷ narrow length_key ++ 0xcd ∷ 0 ∷ 2 ∷ []
 
@@ -115,7 +113,7 @@ twice_bytes first last = 0x83 ∷ narrow primary_key ++ 0xc4 ∷ length here_par
 
 -- ---- a pack list: {I, P: [{p, o: {l}, t: {s, l}, E, N}]} and {P: [{o: {l}, p, t: {l, s}, E, N}], I}
 
-abbrev number : ℕ → Value
+abbrev pub number : ℕ → Value
 number n = Integer (plus n)
 
 abbrev listed : Pairs
@@ -125,43 +123,43 @@ listed = pair (Text lengths_key) (Array (value (number 101) (value (number 101) 
 abbrev source : Value
 source = Map (pair (Text list.length_key) (number 36) no_pairs)
 
-abbrev here_entry : Value
+abbrev pub here_entry : Value
 here_entry =
     Map (pair (Text pack_key) (Text ulid)
     (pair (Text source_key) source
     (pair (Text stored_key) (Map (pair (Text start_key) (number 7) (pair (Text list.length_key) (number 303) no_pairs))) listed)))
 
-abbrev there_entry : Value
+abbrev pub there_entry : Value
 there_entry =
     Map (pair (Text source_key) source
     (pair (Text pack_key) (Text ulid)
     (pair (Text stored_key) (Map (pair (Text list.length_key) (number 303) (pair (Text start_key) (number 7) no_pairs))) listed)))
 
-abbrev here_list : Value
+abbrev pub here_list : Value
 here_list = Map (pair (Text identifier_key) (Map here_identity) (pair (Text entries_key) (Array (value here_entry no_values_lem)) no_pairs))
 
-abbrev there_list : Value
+abbrev pub there_list : Value
 there_list = Map (pair (Text entries_key) (Array (value there_entry no_values_lem)) (pair (Text identifier_key) (Map here_identity) no_pairs))
 
-abbrev here_list_bytes : List ℕ
+abbrev pub here_list_bytes : List ℕ
 here_list_bytes = 0x82 ∷ narrow identifier_key ++ identity_bytes ++ narrow entries_key ++ 0x91 ∷ 0x85 ∷ narrow pack_key ++ narrow ulid
     ++ narrow source_key ++ 0x81 ∷ narrow list.length_key ++ 36 ∷ narrow stored_key ++ 0x82 ∷ narrow start_key ++ 7 ∷ narrow list.length_key ++ 0xcd ∷ 1 ∷ 47
     ∷ narrow lengths_key ++ 0x92 ∷ 101 ∷ 101 ∷ narrow deltas_key ++ 0x91 ∷ 0xff ∷ []
 
-abbrev there_list_bytes : List ℕ
+abbrev pub there_list_bytes : List ℕ
 there_list_bytes = 0x82 ∷ wide entries_key ++ 0xdc ∷ 0 ∷ 1 ∷ 0xde ∷ 0 ∷ 5 ∷ narrow source_key ++ 0x81 ∷ narrow list.length_key ++ 0xcd ∷ 0 ∷ 36
     ∷ narrow pack_key ++ wide ulid ++ narrow stored_key ++ 0x82 ∷ narrow list.length_key ++ 0xcd ∷ 1 ∷ 47 ∷ wide start_key ++ 7
     ∷ narrow lengths_key ++ 0x92 ∷ 0xcc ∷ 101 ∷ 101 ∷ narrow deltas_key ++ 0x91 ∷ 0xff ∷ narrow identifier_key ++ identity_bytes
 
-abbrev here_list_header : List ℕ
+abbrev pub here_list_header : List ℕ
 here_list_header = 0x81 ∷ narrow primary_key ++ 0xc4 ∷ length here_list_bytes ∷ here_list_bytes
 
-abbrev there_list_header : List ℕ
+abbrev pub there_list_header : List ℕ
 there_list_header = 0x81 ∷ wide primary_key ++ 0xc5 ∷ 0 ∷ length there_list_bytes ∷ there_list_bytes
 
 -- ---- what is read
 
-abbrev answer_to : List ℕ → Answer RecordHeld
+abbrev pub answer_to : List ℕ → Answer RecordHeld
 answer_to s = record_in s (read_record limit block_tag s)
 
 abbrev answer : List ℕ → List ℕ → Telling → Answer RecordHeld
@@ -174,7 +172,7 @@ answer primary secondary told =
 abbrev with_secondary : Telling
 with_secondary = record { version = 0; primary = coding 0 false; present = true; length = 2; secondary = coding 7 false }
 
-abbrev list_answer_to : List ℕ → Answer RecordHeld
+abbrev pub list_answer_to : List ℕ → Answer RecordHeld
 list_answer_to s = record_in s (read_record limit pack_list_tag s)
 
 abbrev list_answer : List ℕ → Answer RecordHeld
@@ -234,47 +232,6 @@ pub wide_text : (t : List ℕ) → is_short 256 t ≡ true → Encodes (Text t) 
 unfolding is_short
 wide_text t e = let p = both (ltb (length t) 256) _ e in scalar (text (str8 (number_written 1 (length t) (ltb-true _ _ p.0))) (all_bytes t p.1))
 
-identity_written : Encodes (Map here_identity) identity_bytes
-unfolding is_short all
-identity_written =
-    map (fixmap 3 (omega arith)) (next_pair (narrow_text bucket_key refl) (narrow_text herd refl)
-    (next_pair (narrow_text object_key refl) (narrow_text scan refl)
-    (next_pair (narrow_text ulid_key refl) (narrow_text ulid refl) no_pair)))
-
-here_part_lem : Encodes here_part here_part_bytes
-unfolding is_short all
-here_part_lem = map (fixmap 1 (omega arith)) (next_pair (narrow_text identifier_key refl) identity_written no_pair)
-
-there_part_lem : Encodes there_part there_part_bytes
-unfolding is_short all big_bytes little_bytes
-there_part_lem =
-    map (fixmap 1 (omega arith)) (next_pair (narrow_text identifier_key refl)
-    (map (map16 (number_written 2 3 (omega arith))) (next_pair (wide_text object_key refl) (narrow_text scan refl)
-    (next_pair (narrow_text bucket_key refl) (wide_text herd refl)
-    (next_pair (narrow_text ulid_key refl) (narrow_text ulid refl) no_pair))))
-    no_pair)
-
-here_header_lem : Encodes here_header here_bytes
-unfolding is_short all big_bytes little_bytes
-here_header_lem =
-    map (fixmap 2 (omega arith)) (next_pair (narrow_text secondary_key refl)
-    (array (fixarray 1 (omega arith)) (next
-    (map (fixmap 2 (omega arith)) (next_pair (narrow_text length_key refl) (scalar (positive_fixint 2 (omega arith)))
-    (next_pair (narrow_text compression_key refl) (scalar (positive_fixint 7 (omega arith))) no_pair))) none))
-    (next_pair (narrow_text primary_key refl)
-    (scalar (binary (bin8 (number_written 1 (length here_part_bytes) (omega arith))) (all_bytes here_part_bytes refl))) no_pair))
-
-there_header_lem : Encodes there_header there_bytes
-unfolding is_short all big_bytes little_bytes
-there_header_lem =
-    map (fixmap 2 (omega arith)) (next_pair (wide_text primary_key refl)
-    (scalar (binary (bin16 (number_written 2 (length there_part_bytes) (omega arith))) (all_bytes there_part_bytes refl)))
-    (next_pair (narrow_text secondary_key refl)
-    (array (fixarray 1 (omega arith)) (next
-    (map (fixmap 2 (omega arith)) (next_pair (narrow_text compression_key refl) (scalar (positive_fixint 7 (omega arith)))
-    (next_pair (narrow_text length_key refl) (scalar (uint16 (number_written 2 2 (omega arith)))) no_pair))) none))
-    no_pair))
-
 pub twice_header : {first last : Value} {a b : ℕ} → Encodes first (a ∷ []) → Encodes last (b ∷ []) → Encodes (twice first last) (twice_bytes a b)
 unfolding is_short all big_bytes little_bytes
 twice_header x y =
@@ -282,81 +239,7 @@ twice_header x y =
     (scalar (binary (bin8 (number_written 1 (length here_part_bytes) (omega arith))) (all_bytes here_part_bytes refl)))
     (next_pair (narrow_text compression_key refl) x (next_pair (narrow_text compression_key refl) y no_pair)))
 
-small : (n : ℕ) → ltb n 128 ≡ true → Encodes (number n) (n ∷ [])
-small n e = scalar (positive_fixint n (ltb-true n 128 e))
-
-minus_one : Encodes (Integer (minus 1)) (0xff ∷ [])
-minus_one = scalar (negative_fixint 31 1 (omega arith) refl)
-
-here_list_lem : Encodes here_list here_list_bytes
-unfolding is_short all big_bytes little_bytes
-here_list_lem =
-    map (fixmap 2 (omega arith)) (next_pair (narrow_text identifier_key refl) identity_written
-    (next_pair (narrow_text entries_key refl)
-    (array (fixarray 1 (omega arith)) (next
-    (map (fixmap 5 (omega arith)) (next_pair (narrow_text pack_key refl) (narrow_text ulid refl)
-    (next_pair (narrow_text source_key refl) (map (fixmap 1 (omega arith)) (next_pair (narrow_text list.length_key refl) (small 36 refl) no_pair))
-    (next_pair (narrow_text stored_key refl) (map (fixmap 2 (omega arith)) (next_pair (narrow_text start_key refl) (small 7 refl)
-    (next_pair (narrow_text list.length_key refl) (scalar (uint16 (number_written 2 303 (omega arith)))) no_pair)))
-    (next_pair (narrow_text lengths_key refl) (array (fixarray 2 (omega arith)) (next (small 101 refl) (next (small 101 refl) none)))
-    (next_pair (narrow_text deltas_key refl) (array (fixarray 1 (omega arith)) (next minus_one none)) no_pair)))))) none)) no_pair))
-
-there_list_lem : Encodes there_list there_list_bytes
-unfolding is_short all big_bytes little_bytes
-there_list_lem =
-    map (fixmap 2 (omega arith)) (next_pair (wide_text entries_key refl)
-    (array (array16 (number_written 2 1 (omega arith))) (next
-    (map (map16 (number_written 2 5 (omega arith))) (next_pair (narrow_text source_key refl)
-    (map (fixmap 1 (omega arith)) (next_pair (narrow_text list.length_key refl) (scalar (uint16 (number_written 2 36 (omega arith)))) no_pair))
-    (next_pair (narrow_text pack_key refl) (wide_text ulid refl)
-    (next_pair (narrow_text stored_key refl) (map (fixmap 2 (omega arith))
-    (next_pair (narrow_text list.length_key refl) (scalar (uint16 (number_written 2 303 (omega arith))))
-    (next_pair (wide_text start_key refl) (small 7 refl) no_pair)))
-    (next_pair (narrow_text lengths_key refl)
-    (array (fixarray 2 (omega arith)) (next (scalar (uint8 (number_written 1 101 (omega arith)))) (next (small 101 refl) none)))
-    (next_pair (narrow_text deltas_key refl) (array (fixarray 1 (omega arith)) (next minus_one none)) no_pair)))))) none))
-    (next_pair (narrow_text identifier_key refl) identity_written no_pair))
-
-here_list_header_lem : Encodes (plain_header here_list_bytes) here_list_header
-unfolding is_short all big_bytes little_bytes
-here_list_header_lem =
-    map (fixmap 1 (omega arith)) (next_pair (narrow_text primary_key refl)
-    (scalar (binary (bin8 (number_written 1 (length here_list_bytes) (omega arith))) (all_bytes here_list_bytes refl))) no_pair)
-
-there_list_header_lem : Encodes (plain_header there_list_bytes) there_list_header
-unfolding is_short all big_bytes little_bytes
-there_list_header_lem =
-    map (fixmap 1 (omega arith)) (next_pair (wide_text primary_key refl)
-    (scalar (binary (bin16 (number_written 2 (length there_list_bytes) (omega arith))) (all_bytes there_list_bytes refl))) no_pair)
-
 -- ---- the theorem applies to the two sites
-
-sites_alike : Alike here_header there_header
-sites_alike =
-    maps (and_further (swapped _ _ _ _ no_pairs)
-    (next_pair_alike (same _) (embedded here_part_lem there_part_lem (maps (next_pair_alike (same _) (maps (swapped _ _ _ _ _)) no_pairs_alike)))
-    (next_pair_alike (same _) (arrays (next_alike (maps (swapped _ _ _ _ no_pairs)) no_values_alike)) no_pairs_alike)))
-
-pub sites_read_alike : AnswersAlike SameRecord (answer_to (here_bytes ++ secondary)) (answer_to (there_bytes ++ secondary))
-sites_read_alike = records_alike limit block_tag here_header_lem there_header_lem sites_alike secondary
-
-entries_alike : Alike here_entry there_entry
-entries_alike =
-    maps (and_further (swapped _ _ _ _ _)
-    (next_pair_alike (same _) (same _) (next_pair_alike (same _) (same _)
-    (next_pair_alike (same _) (maps (swapped _ _ _ _ no_pairs))
-    (next_pair_alike (same _) (same _) (next_pair_alike (same _) (same _) no_pairs_alike))))))
-
-lists_alike : Alike here_list there_list
-lists_alike =
-    maps (and_further (swapped _ _ _ _ no_pairs)
-    (next_pair_alike (same _) (arrays (next_alike entries_alike no_values_alike)) (next_pair_alike (same _) (same _) no_pairs_alike)))
-
-pub lists_read_alike : AnswersAlike SameRecord (list_answer_to here_list_header) (list_answer_to there_list_header)
-unfolding big_bytes little_bytes
-lists_read_alike =
-    records_alike limit pack_list_tag here_list_header_lem there_list_header_lem
-    (maps (next_pair_alike (same _) (embedded here_list_lem there_list_lem lists_alike) no_pairs_alike)) []
 
 pub twice_alike : (first last : Value) → Alike (twice first last) (twice last first)
 twice_alike first last = maps (next_pair_alike (same _) (same _) (swapped _ _ _ _ no_pairs))

@@ -6,7 +6,5 @@ pub mod Record
 pub mod AnswersAlike
 pub mod TellsApart
 pub mod SameReading
-pub mod SameRecords
-pub mod TwoSites
 pub mod Written
 pub mod Examples

@@ -4,10 +4,7 @@ use mathlib.Core.Bool.{true}
 use mathlib.Core.List.{List, [], ◌∷◌, ◌++◌, append-nil}
 use mathlib.Core.Option.{none, some}
 use mathlib.Core.Path.{◌≡◌, refl, sym, ap, subst, ◌∙◌}
-use mathlib.Core.Logic.{⊎_elim}
 use native.Mathlib.Omega.{arith}
-use denote.Enum.Declared.{tag_of}
-use types.Run.{OneOf}
 use lib.ListN.{length, drop, length-append, length-drop}
 use lib.Seq.{append_snoc, drop-drop}
 use Rattle.pack.specs.declared.Entry.{Entry}
@@ -20,7 +17,6 @@ use Rattle.pipe.specs.States.{progress_of, notice_of, call_of}
 use Rattle.pipe.specs.declared.Event.{Event}
 use Rattle.pipe.specs.declared.Event.TheVariants.{Wanted, Complete, Refusal, Over, Malformed}
 use Rattle.pipe.specs.declared.Taken.{Taken}
-use Rattle.pipe.specs.contracts.Event.{the_type}
 use Rattle.pipe.specs.Sessions.{Run, silent, tell, record_in, run, run_none, run_passed, run_told}
 use Rattle.stream_pack.specs.Few.{few_told}
 
@@ -123,13 +119,12 @@ module _ {out₀ : List ℕ} {p : Progress} {s out : List ℕ} {q : Progress} {a
 -- ---- `t` is what the code did in that call
 
 -- its event is no record
-no_record : (e : Event) → OneOf (0 ∷ 2 ∷ 3 ∷ 4 ∷ []) (tag_of the_type e) → record_in (notice_of e) ≡ none
-no_record Wanted k = refl
-no_record (Complete x) k =
-    absurd (⊎_elim (λ (z : 1 ≡ 0). omega arith) (⊎_elim (λ (z : 1 ≡ 2). omega arith) (⊎_elim (λ (z : 1 ≡ 3). omega arith) (λ (z : 1 ≡ 4). omega arith))) k)
-no_record (Refusal n place) k = refl
-no_record (Over records) k = refl
-no_record Malformed k = refl
+no_record : (e : Event) → ((x : Entry) → e ≡ Complete x → ⊥) → record_in (notice_of e) ≡ none
+no_record Wanted other = refl
+no_record (Complete x) other = absurd (other x refl)
+no_record (Refusal n place) other = refl
+no_record (Over records) other = refl
+no_record Malformed other = refl
 
 module _ {out₀ : List ℕ} {p : Progress} {s out : List ℕ} {q : Progress} {at end : ℕ} (v : Lines out₀ p s out q at end) (t : Taken)
     (called : call_of t ≡ take pipe_limit q (drop at s)) where
@@ -145,11 +140,11 @@ module _ {out₀ : List ℕ} {p : Progress} {s out : List ℕ} {q : Progress} {a
     line_more fit few large {out'} {end'} with_room =
         subst (λ (c : Call). Lines out₀ p s out' c.after (at + c.taken) end') (sym called) (another_line v e (noticed is) fit few large with_room)
 
-  pub lines_end : fits pipe_limit p ≡ true → length s ≤ 65536 → OneOf (0 ∷ 2 ∷ 3 ∷ 4 ∷ []) (tag_of the_type t.event)
+  pub lines_end : fits pipe_limit p ≡ true → length s ≤ 65536 → ((x : Entry) → t.event ≡ Complete x → ⊥)
       → Put out₀ 0 (lines (run pipe_limit p s).told) out end
       × ((progress_of t.state ≡ (run pipe_limit p s).after) × ((fits pipe_limit (progress_of t.state) ≡ true) × (end ≤ 131072)))
-  lines_end fit few k =
-      let r = last_line v (ap record_in (noticed refl) ∙ no_record t.event k) in
+  lines_end fit few other =
+      let r = last_line v (ap record_in (noticed refl) ∙ no_record t.event other) in
       let after : progress_of t.state ≡ (take pipe_limit q (drop at s)).after = ap (λ (c : Call). c.after) called in
       let n = few_told pipe_limit p s fit in
       let all : length (run pipe_limit p s).told ≡ length v.es = ap length r.0 in

@@ -1,5 +1,5 @@
 -- What is written encodes the headers and primary parts that document 01 names.
-use Rattle.std.specs.Prelude.{ℕ, ◌+◌, ◌^◌, ◌<◌, Bool, true, false, ◌≡◌, refl, length}
+use Rattle.std.specs.Prelude.{ℕ, ◌^◌, ◌<◌, Bool, true, false, ◌≡◌, refl, length}
 use mathlib.Core.List.{List, [], ◌∷◌, ◌++◌, flatten, append_assoc, append-nil}
 use Rattle.std.proofs.Common.{arith}
 use Rattle.slices.specs.Bytes.{AllBytes, none_bytes, cons_bytes}

@@ -14,7 +14,7 @@ use Rattle.identifier.specs.Ulid.{is_ulid}
 use Rattle.value.specs.Header.{primary_key, secondary_key, length_key}
 use Rattle.primary.specs.Parts.{bucket_key, object_key, ulid_key, identifier_key, deleted_key, delete_id_key}
 use Rattle.records_model.specs.Written as values
-use Rattle.writer.specs.Values.{text_item, pair, map_item, primary_header, secondary_header, block_header, part_header, block_part, part_value, identity_pairs, marker_pairs, version_part, delete_part}
+use Rattle.writer.specs.Values.{text_item, pair, map_item, primary_header, secondary_header, block_header, part_header, block_part, part_value, version_part, delete_part}
 use Rattle.writer_laws.specs.Encoded.{part_value_encodes, block_header_encodes, block_part_encodes, IdentityBytes, version_part_encodes, delete_part_encodes}
 
 -- ---- what is written is what the writer's heads make of the value

@@ -1,0 +1,13 @@
+-- `explanation::first_version` meets its contract: so far no record passed the test.
+use Prim.Native.Nat.{◌-◌}
+use lib.ListN.{length}
+use Rattle.identifier.specs.Identity.{identity}
+use Rattle.lookup_records.specs.Passes.{Walks}
+use Rattle.explanation.specs.Reasons.{first_where, holds}
+use Rattle.explanation.proofs.first_version.Given as goal
+
+abbrev pub invariant-loop-at : goal.invariant-loop-at
+invariant-loop-at l = Walks (first_where (holds (identity l.ulid l.bucket l.object))) l.pack l.at
+
+abbrev pub decreases-loop-at : goal.decreases-loop-at
+decreases-loop-at l = length l.pack - l.at
