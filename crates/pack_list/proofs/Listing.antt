@@ -8,7 +8,7 @@ use native.Mathlib.Omega.{arith}
 use borrow.Author.Tests.{le-leb}
 use lib.ListN.{length, drop}
 use Rattle.slices.specs.Logic.{absurd_numbers}
-use Rattle.refusals.specs.Answers.{refused, granted}
+use Rattle.refusals.specs.Answers.{refused}
 use Rattle.msgpack.specs.Lookup.{ValuePlace, found, missing, broken, last_value, at_place, if_there}
 use Rattle.msgpack.specs.Pairs.{place_told}
 use Rattle.msgpack.specs.Views.{repeats, front_of, byte_view}

@@ -11,7 +11,7 @@ use lib.Dec.{leb}
 use lib.ListN.{length, drop, get_or, length-drop}
 use lib.Seq.{drop-drop}
 use Rattle.slices.specs.Logic.{absurd_numbers, both, or_false, or_assoc}
-use Rattle.msgpack.specs.Items.{whole, depth_allowed, pass_over, WholeItem}
+use Rattle.msgpack.specs.Items.{depth_allowed, pass_over, WholeItem}
 use Rattle.msgpack.specs.PassingLaws.{bounded}
 use Rattle.msgpack.specs.Lookup.{if_there, over}
 use Rattle.msgpack.specs.Views.{size_of, items_from, byte_view}

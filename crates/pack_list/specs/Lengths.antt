@@ -1,14 +1,11 @@
 -- The deltas that count and the stored lengths of an entry's blocks, said without a computation.
 use Prim.Native.Nat.{ℕ, zero, suc, ◌+◌, ◌-◌, ◌≤◌, ◌<◌}
-use Rattle.std.specs.Prelude.{Bool, true, false, cond, ◌↔◌, ◌≡◌, ltb, leb, length}
+use Rattle.std.specs.Prelude.{Bool, true, false, cond, ◌↔◌, ◌≡◌, ltb, length}
 use mathlib.Core.List.{List, [], ◌∷◌, ◌++◌, map, append-nil}
-use Rattle.std.proofs.Math.Option.{Option, none, some}
 use Rattle.std.proofs.Math.Path.{refl, ap}
-use Rattle.std.proofs.Common.{sym, subst, ◌∙◌, not-suc-le-zero, le_of_suc-le-suc, arith, ltb-true, ltb-false, leb-true, le-leb, length-append, take_all}
+use Rattle.std.proofs.Common.{sym, ◌∙◌, arith, ltb-true, ltb-false, length-append, take_all}
 use Rattle.std.proofs.Math.ListN.{get_or, take, get_or-map}
-use Rattle.slices.specs.Logic.{absurd_numbers}
-use Rattle.msgpack.specs.Readers.{Int, plus, minus}
-use Rattle.msgpack.specs.Lookup.{if_there, over}
+use Rattle.msgpack.specs.Readers.{Int, plus}
 use Rattle.pack_list.specs.Lists.{range, Entry, sum}
 use Rattle.pack_list.specs.declared.Range.{Range}
 use Rattle.pack_list.specs.Blocks.{rest_of, blocks, deltas_of, gain, loss, gains, losses, stored_from, stored_lengths}

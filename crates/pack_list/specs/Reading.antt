@@ -5,7 +5,7 @@ use mathlib.Core.List.{List, [], ◌∷◌, Memᴰ}
 use Rattle.std.proofs.Math.Logic.{⊎_elim}
 use Rattle.std.proofs.Math.Option.{Option, none, some}
 use Rattle.std.proofs.Math.Path.{refl, ap}
-use Rattle.std.proofs.Common.{sym, subst, ◌∙◌, arith, leb-true, le-leb}
+use Rattle.std.proofs.Common.{sym, subst, ◌∙◌, leb-true, le-leb}
 use Rattle.slices.specs.Logic.{absurd_numbers, both}
 use Rattle.refusals.specs.Answers.{Answer, refused, granted, or_refused, if_once}
 use Rattle.msgpack.specs.Views.{byte_view}

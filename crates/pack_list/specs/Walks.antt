@@ -4,7 +4,7 @@ use Rattle.std.specs.Prelude.{ℕ, zero, suc, ◌+◌, ◌-◌, ◌≤◌, ◌<�
 use Rattle.std.proofs.Math.Option.{Option, none, some}
 use Rattle.std.proofs.Common.{sym, ap, ◌∙◌, arith, length-drop, get_or-drop, drop-drop}
 use Rattle.slices.specs.Logic.{absurd_numbers}
-use Rattle.msgpack.specs.Items.{whole, pass_items, pass_item, depth_allowed, pass_over, WholeItem}
+use Rattle.msgpack.specs.Items.{pass_items, pass_item, depth_allowed, pass_over, WholeItem}
 use Rattle.msgpack.specs.Lookup.{if_there, over}
 use Rattle.msgpack.specs.Pairs.{inside_allowed}
 use Rattle.msgpack.specs.PassingLaws.{bounded, Joined, deeper}

@@ -1,5 +1,5 @@
 -- What stands at a place of a pack: the end, a record, or the lowest number of document 01's refusal sheet, from 2 to 8, that applies there.
-use Rattle.std.specs.Prelude.{ℕ, ◌+◌, ◌-◌, ◌%◌, ◌≤◌, ◌<◌, Bool, true, false, not, cond, List, [], ◌∷◌, ◌++◌, ◌≡◌, refl, eqb, ltb, length, take, drop}
+use Rattle.std.specs.Prelude.{ℕ, ◌-◌, ◌%◌, ◌≤◌, ◌<◌, Bool, true, false, not, cond, List, [], ◌∷◌, ◌++◌, ◌≡◌, refl, eqb, ltb, length, take, drop}
 use Rattle.std.proofs.Math.Option.{Option, none, some, Option-elim}
 use Rattle.std.proofs.Common.{sym, ◌∙◌, arith, ltb-false, eqb-true, ne_eqb}
 use Rattle.refusals.specs.Sheet.{Row, lowest}
@@ -9,9 +9,7 @@ use Rattle.tlv.specs.declared.RecordHeader.{RecordHeader}
 use Rattle.tlv.specs.declared.Fault.{Fault}
 use Rattle.tlv.specs.declared.Fault.TheVariants.{HeaderCut, Magic, Version, HashType, HeaderHash, ValueCut, ValueHash}
 use Rattle.tlv.specs.declared.HeaderRead.{HeaderRead}
-use Rattle.tlv.specs.declared.HeaderRead.TheVariants as HeaderRead
 use Rattle.tlv.specs.declared.Step.{Step}
-use Rattle.tlv.specs.declared.Step.TheVariants as Step
 
 -- ---- the refusal sheet: a number, and whether it applies to what stands at the front of s
 

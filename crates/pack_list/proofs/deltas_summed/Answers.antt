@@ -1,6 +1,4 @@
 -- `pack_list::deltas_summed` meets its contract: so far the sums are those of the deltas that have been read and belong to blocks.
-use Prim.Native.Nat.{◌-◌}
-use mathlib.Core.Logic.{⊎_elim}
 use mathlib.Core.Path.{◌≡◌, sym, ap, subst, ◌∙◌}
 use native.Mathlib.Omega.{arith}
 use lib.ListN.{drop}

@@ -13,7 +13,7 @@ use Rattle.msgpack.specs.Views.{byte_view}
 use Rattle.primary.specs.Parts.{fills}
 use Rattle.primary.specs.Filling.{fills_is, fills_whole}
 use Rattle.pack_list.specs.Lists.{entries_key, each_of, entry_at, entries_under}
-use Rattle.pack_list.specs.Answers.{items_in, numbers_of, survey_of}
+use Rattle.pack_list.specs.Answers.{items_in, numbers_of}
 use Rattle.pack_list.proofs.Keys.{list_codes, entries_place, list_repeats_lem, no_list_map}
 use Rattle.pack_list.proofs.Entries.{value_at_lem, numbers_placed}
 use Rattle.pack_list.proofs.Surveys.{all_surveyed, not_surveyed}

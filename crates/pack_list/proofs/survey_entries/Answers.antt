@@ -1,8 +1,6 @@
 -- `pack_list::survey_entries` meets its contract: what all entries tell is what those from a place on tell, after those before it.
-use Prim.Native.Nat.{◌-◌}
-use mathlib.Core.Path.{refl, sym, ap, ◌∙◌}
+use mathlib.Core.Path.{refl, ◌∙◌}
 use native.Mathlib.Omega.{arith}
-use Rattle.pack_list.specs.Answers.{told_in}
 use Rattle.pack_list.proofs.Surveys.{none_surveyed, surveyed_all, entry_whole, entry_missing, entry_ends, one_surveyed}
 use Rattle.pack_list.proofs.survey_entries.Goals as goal
 

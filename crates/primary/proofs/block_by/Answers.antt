@@ -2,7 +2,6 @@
 use mathlib.Core.Bool.{true}
 use mathlib.Core.Path.{◌≡◌, refl, ap, ◌∙◌}
 use lib.ListN.{get_or}
-use Rattle.msgpack.specs.Items.{whole}
 use Rattle.msgpack.specs.Lookup.{missing, broken, found, last_value}
 use Rattle.msgpack.specs.LookupLaws.{value_whole}
 use Rattle.msgpack.specs.Pairs.{place_told}

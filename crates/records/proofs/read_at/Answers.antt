@@ -1,9 +1,8 @@
 -- `records::read_at` meets its contract: a case for each test and for each answer of the step and of the reading.
-use mathlib.Core.Path.{◌≡◌, refl, sym, ap, ◌∙◌}
+use mathlib.Core.Path.{◌≡◌, refl, sym}
 use lib.ListN.{drop}
 use Rattle.refusals.specs.Limit.{pack_limit}
 use Rattle.tlv.specs.Found.{end, found, fault, step, number_of}
-use Rattle.records.specs.Answers.{answer_of}
 use Rattle.records.proofs.Places.{place_inside, no_outside, no_too_long, no_fault, no_refused}
 use Rattle.records.proofs.Readings.{outside, too_long, stepped, is_value, found_there}
 use Rattle.records.proofs.read_at.Goals as goal

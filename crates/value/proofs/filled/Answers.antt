@@ -2,7 +2,7 @@
 use mathlib.Core.Bool.{Bool, true, false, ◌||◌}
 use mathlib.Core.Path.{◌≡◌, sym, ◌∙◌}
 use mathlib.Core.Option.{Option, none, some}
-use borrow.Author.Tests.{eq-eqb, ne_eqb, eqb-true, eqb-false}
+use borrow.Author.Tests.{eq-eqb, ne_eqb}
 use native.Mathlib.Omega.{arith}
 use Rattle.slices.specs.Logic.{absurd_numbers}
 use Rattle.refusals.specs.Limit.{pack_limit}
@@ -12,7 +12,7 @@ use Rattle.value.specs.Header.{secondary_key, header_keys, list_repeats, header_
 use Rattle.value.specs.declared.Told.{Told}
 use lib.ListN.{take, length}
 use lib.Seq.{length-take-le}
-use Prim.Native.Nat.{ℕ, ◌+◌, ◌-◌}
+use Prim.Native.Nat.{ℕ, ◌+◌}
 use Rattle.value.proofs.filled.Goals as goal
 use Rattle.value.proofs.filled.Goals.{In-Told}
 

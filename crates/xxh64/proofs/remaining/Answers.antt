@@ -1,5 +1,5 @@
 -- `xxh64::remaining` meets its contract. The invariant: k lanes have been taken.
-use Rattle.std.proofs.Common.{◌≡◌, ◌+◌, ◌-◌, ◌*◌, ◌≤◌, length, arith, rules}
+use Rattle.std.proofs.Common.{◌≡◌, ◌+◌, ◌*◌, ◌≤◌, length, arith, rules}
 use Rattle.xxh64.specs.Xxh64.{consume, taken}
 use Rattle.xxh64.proofs.Laws.{taken_more, lane_inside}
 use Rattle.xxh64.proofs.remaining.Goals as goal

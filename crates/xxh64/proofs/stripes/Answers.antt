@@ -1,5 +1,5 @@
 -- `xxh64::stripes` meets its contract. The invariant: each accumulator has taken one lane of each of k stripes.
-use Rattle.std.proofs.Common.{◌≡◌, ◌-◌, ◌*◌, sym, refl, ap, zero-add, arith, rules}
+use Rattle.std.proofs.Common.{◌≡◌, ◌*◌, sym, refl, ap, zero-add, arith, rules}
 use Rattle.xxh64.specs.Xxh64.{lane, round, taken}
 use Rattle.xxh64.proofs.Laws.{taken_more}
 use Rattle.xxh64.proofs.stripes.Goals as goal
