@@ -1,5 +1,5 @@
 -- What an answer of the library says of the explanation, and so of the text.
-use Prim.Native.Nat.{ℕ, ◌+◌, ◌*◌, ◌/◌, ◌≤◌}
+use Prim.Native.Nat.{ℕ, ◌+◌, ◌/◌, ◌≤◌}
 use mathlib.Core.Bool.{Bool, true, false, cond}
 use mathlib.Core.List.Memᴰ
 use mathlib.Core.List.{List, [], ◌∷◌, ◌++◌, map}
@@ -260,3 +260,8 @@ module _ (named s bucket object : List ℕ) (bucket-is : bucket ≡ bucket_of na
         let put = p.fits (omega arith) in
         let is : refusal_alone 20 ≡ text named s = ap text_of (sym (alone_is (explain pack_limit s bucket object) (length no_rows / 3) e)) ∙ text_of_lem in
         (subst (λ (x : List ℕ). Put s0 0 x s1 next) is put, omega (arith, put.place, refusal_alone_length 20))
+
+-- ---- the line of a pack that is too long lies within the buffer
+
+pub too_long_within : {s0 s2 : List ℕ} {next : ℕ} → 53 ≤ length s0 → length s2 ≡ length s0 → PutWithRoom 53 s0 0 (refusal_line 1 0) s2 next → next ≤ length s2
+too_long_within room same put = omega (arith, (put.fits (omega arith)).place, refusal_length 1 0, same)
