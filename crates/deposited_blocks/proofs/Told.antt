@@ -37,7 +37,7 @@ use Rattle.records.specs.declared.AtPlace.TheVariants as place-answer
 use Rattle.deposit.specs.Packs.{deposit_reading, deposit}
 use Rattle.deposit_laws.specs.Blocks.{data_in}
 use Rattle.deposited_blocks.specs.Same.{Block, block_in, block_at, if_deposited, deposited_block, same_block, EqualBytes}
-use Rattle.deposited_blocks.specs.Found.{same_block_bytes}
+use Rattle.deposited_blocks.proofs.Found.{same_block_bytes}
 
 -- ---- the check
 
