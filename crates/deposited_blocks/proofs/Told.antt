@@ -1,14 +1,11 @@
 -- What the code learns of a record, call by call, and the block that the definition tells then.
 use Prim.Native.Nat.{ℕ, ◌+◌}
 use mathlib.Core.Bool.{Bool, true, false, cond}
-use mathlib.Core.List.{List, [], ◌∷◌}
-use mathlib.Core.Logic.{⊎_elim}
+use mathlib.Core.List.{List}
 use mathlib.Core.Option.{Option, none, some}
 use mathlib.Core.Path.{◌≡◌, refl, sym, ap, subst, ◌∙◌}
 use native.Mathlib.Omega.{arith}
 use borrow.Author.Tests.{eq-eqb, ne_eqb}
-use denote.Enum.Declared.{tag_of}
-use types.Run.{OneOf}
 use lib.Dec.{leb, ltb, eqb}
 use lib.ListN.{length, take, drop}
 use lib.Seq.{drop-drop}
@@ -24,7 +21,6 @@ use Rattle.tlv.specs.declared.RecordHeader.{RecordHeader}
 use Rattle.pack.specs.declared.Entry.{Entry}
 use Rattle.pack.specs.declared.Walked.{Walked}
 use Rattle.pack.specs.declared.Walked.TheVariants as Walked
-use Rattle.pack.specs.contracts.Walked as walked
 use Rattle.pack.specs.Reading.{Ending, whole, refused, reading, counted, outcome}
 use Rattle.pack.specs.Reading as pack
 use Rattle.pack.specs.Walk.{Yield, entry, ended, refusal, yield_of, nth_yield}
@@ -38,11 +34,10 @@ use Rattle.records.specs.Answers.{place_of_part, record_in, place_of}
 use Rattle.records.specs.declared.Record as declared-record
 use Rattle.records.specs.declared.AtPlace as declared-place
 use Rattle.records.specs.declared.AtPlace.TheVariants as place-answer
-use Rattle.records.specs.contracts.AtPlace as at_place
 use Rattle.deposit.specs.Packs.{deposit_reading, deposit}
 use Rattle.deposit_laws.specs.Blocks.{data_in}
 use Rattle.deposited_blocks.specs.Same.{Block, block_in, block_at, if_deposited, deposited_block, same_block, EqualBytes}
-use Rattle.deposited_blocks.specs.Found.{same_block_bytes}
+use Rattle.deposited_blocks.proofs.Found.{same_block_bytes}
 
 -- ---- the check
 
@@ -108,15 +103,14 @@ module _ (limit : ℕ) (s : List ℕ) (at : ℕ) where
       by (refused_at n p) q f = absurd_numbers (cc)
       by (alone n) q f = absurd_numbers (cc)
 
-  no_block_read : (p : declared-place.AtPlace) → place_of s p ≡ there_from (at + 32) (record_at limit s at) → OneOf (1 ∷ 2 ∷ 3 ∷ 4 ∷ []) (tag_of at_place.the_type p)
+  no_block_read : (p : declared-place.AtPlace) → place_of s p ≡ there_from (at + 32) (record_at limit s at) → ((d : declared-record.Record) (v : Place) → p ≡ place-answer.Record d v → ⊥)
       → none ≡ block_in (record_at limit s at)
   no_block_read p e k = by (record_at limit s at) p e k
     where
-      by : (o : AtPlace) (p : declared-place.AtPlace) → place_of s p ≡ there_from (at + 32) o → OneOf (1 ∷ 2 ∷ 3 ∷ 4 ∷ []) (tag_of at_place.the_type p) → none ≡ block_in o
+      by : (o : AtPlace) (p : declared-place.AtPlace) → place_of s p ≡ there_from (at + 32) o → ((d : declared-record.Record) (v : Place) → p ≡ place-answer.Record d v → ⊥) → none ≡ block_in o
       by (refused_at n q) p f k = refl
       by (alone n) p f k = refl
-      by (there value r) (place-answer.Record d v) f k = absurd (⊎_elim (λ (z : 0 ≡ 1). omega arith)
-          (⊎_elim (λ (z : 0 ≡ 2). omega arith) (⊎_elim (λ (z : 0 ≡ 3). omega arith) (λ (z : 0 ≡ 4). omega arith))) k)
+      by (there value r) (place-answer.Record d v) f k = absurd (k d v refl)
       by (there value r) place-answer.Outside f k = absurd_numbers (cc)
       by (there value r) place-answer.TooLong f k = absurd_numbers (cc)
       by (there value r) (place-answer.Fault g q) f k = absurd_numbers (cc)
@@ -139,11 +133,11 @@ module _ (limit : ℕ) (s : List ℕ) (n : ℕ) where
     unfolding deposited_block
     by_number = ap (λ x. if_deposited x (block_at limit s (nth_yield (reading limit s) n))) (counted_whole (deposit_reading limit s) count c)
 
-    pub no_record : (w : Walked) → yield_of w ≡ nth_yield (reading limit s) n → OneOf (1 ∷ 2 ∷ 3 ∷ []) (tag_of walked.the_type w) → none ≡ deposited_block limit s n
+    pub no_record : (w : Walked) → yield_of w ≡ nth_yield (reading limit s) n → ((e : Entry) → w ≡ Walked.Record e → ⊥) → none ≡ deposited_block limit s n
     no_record w e k = none_at w k ∙ ap (block_at limit s) e ∙ sym by_number
       where
-        none_at : (w : Walked) → OneOf (1 ∷ 2 ∷ 3 ∷ []) (tag_of walked.the_type w) → none ≡ block_at limit s (yield_of w)
-        none_at (Walked.Record e) k = absurd (⊎_elim (λ (z : 0 ≡ 1). omega arith) (⊎_elim (λ (z : 0 ≡ 2). omega arith) (λ (z : 0 ≡ 3). omega arith)) k)
+        none_at : (w : Walked) → ((e : Entry) → w ≡ Walked.Record e → ⊥) → none ≡ block_at limit s (yield_of w)
+        none_at (Walked.Record e) k = absurd (k e refl)
         none_at Walked.End k = refl
         none_at Walked.TooLong k = refl
         none_at (Walked.Fault f at) k = refl
@@ -157,7 +151,7 @@ module _ (limit : ℕ) (s : List ℕ) (n : ℕ) where
         by_place = by_number ∙ ap (block_at limit s) (sym y) ∙ rw (eq-eqb e.tag block_tag t)
 
         pub not_read : (p : declared-place.AtPlace) → place_of s p ≡ there_from (e.start + 32) (record_at limit s e.start)
-            → OneOf (1 ∷ 2 ∷ 3 ∷ 4 ∷ []) (tag_of at_place.the_type p) → none ≡ deposited_block limit s n
+            → ((d : declared-record.Record) (v : Place) → p ≡ place-answer.Record d v → ⊥) → none ≡ deposited_block limit s n
         not_read p f k = no_block_read limit s e.start p f k ∙ sym by_place
 
         pub block_told : (d : declared-record.Record) (v : Place) → there (part_at s v) (record_in s d) ≡ there_from (e.start + 32) (record_at limit s e.start)
