@@ -12,7 +12,7 @@ use Rattle.refusals.specs.Limit.{pack_limit}
 use Rattle.refusals.specs.Answers.{granted}
 use Rattle.value.specs.Header.{telling_of}
 use Rattle.value.specs.declared.Told.{Told}
-use Rattle.records.specs.Record.{Record, AtPlace, there, told_from, record_from, there_from}
+use Rattle.records.specs.Record.{Record, there, told_from, record_from, there_from}
 use Rattle.records.specs.Answers.{record_in, place_of, PlaceInside}
 use Rattle.records.specs.declared.AtPlace as declared-place
 use Rattle.records.specs.declared.AtPlace.TheVariants as place-answer

@@ -16,7 +16,7 @@ returns-in-Count-clause-result_value c =
     let start = c in
     let told = c.in-Count in
     ap (counted told.n) c.read_at.ensures.result_value
-          ∙ ap (λ w. of_front (read_behind start.args.used) start.args.buf.now (answer_of w)) (sym told.is)
+    ∙ ap (λ w. of_front (read_behind start.args.used) start.args.buf.now (answer_of w)) (sym told.is)
 
 pub returns-in-Count-clause-inside : goal.returns-in-Count-clause-inside
 returns-in-Count-clause-inside c = inside_read _ _ _ _ c.read_at.ensures.inside
