@@ -21,7 +21,8 @@ use Rattle.current_version.specs.Current.{Answer, refused_at, is_name, lookup}
 use Rattle.current_version.specs.Packs.{ReadablePack, SameAnswer}
 use Rattle.lookup.specs.Answers.{found_of, FoundInside}
 use Rattle.lookup.specs.declared.Found.{Found}
-use Rattle.demands_laws.specs.Deletion.{TakesOut, deletion_takes_out}
+use Rattle.demands_laws.specs.Deletion.{TakesOut}
+use Rattle.demands_laws.proofs.Deletion.{deletion_takes_out}
 use Rattle.demands.specs.Answers.{counted, of_front, answers_of, looked_up, WritesFor, CountInside, DeletionInside, DeletionHolds}
 use Rattle.demands.specs.declared.Deletion.{Deletion}
 use Rattle.demands.specs.declared.Deletion.TheVariants.{LookedUp, Short, Inadmissible}

@@ -1,43 +1,29 @@
 -- The relations of these theorems tell things apart: what differs in one respect alone is not related.
 use Rattle.std.specs.Prelude.{ℕ, suc, List, ◌∷◌, ◌≡◌, refl, length}
-use Rattle.std.proofs.Math.Option.{Option, none, some}
-use Rattle.std.proofs.Common.{sym, ap, subst, ◌∙◌}
+use Rattle.std.proofs.Math.Option.{Option, none}
+use Rattle.std.proofs.Common.{sym, ap, ◌∙◌}
 use Rattle.slices.specs.Logic.{absurd_numbers}
 use Rattle.pack.specs.declared.Entry.{Entry}
 use Rattle.pack.specs.Reading.{whole, reading}
 use Rattle.msgpack.specs.Views.{Each, no_more, and_each}
-use Rattle.identifier.specs.Identity.{Identity}
 use Rattle.records.specs.Record.{record_at}
 use Rattle.records_model.specs.Alike.{AlikeRecordValues}
 use Rattle.records_model.specs.AnswersAlike.{AnswersAlike, NumbersAlike, SameRecord}
 use Rattle.writer.specs.Writing.{Item}
 use Rattle.current_version.specs.Current as current
 use Rattle.current_version.specs.Current.{Version, Answer, refused_at, lookup}
-use Rattle.current_version.specs.Packs.{ReadablePack, SameAnswer}
 use Rattle.current_version.specs.TellsApart as answers
-use Rattle.current_version.specs.Bytes.{taken_out_of}
 use Rattle.demands_laws.specs.Deletion.{deleted_by, TakesOut}
 use Rattle.demands_laws.specs.Sites.{AlikeEntries, AlikePacks, held_at, AllAnswersAlike, next_entry_lem, SameIndex, AlikeLookups}
 
 -- ---- a deletion
 
 module _ (limit : ℕ) (asked : Option Item) (before bucket object : List ℕ) (answer : Answer) where
-  abbrev Taken : Type 0
+  abbrev pub Taken : Type 0
   Taken = TakesOut limit asked before bucket object answer
 
   pub nothing_is_deleted : deleted_by asked ≡ none → Taken → ⊥
   nothing_is_deleted is x = let e = sym is ∙ x.is_deleted_lem in absurd_numbers (cc)
-
-  -- where i is what is deleted, and no other
-  module _ (i : Identity) (is : deleted_by asked ≡ some i) where
-    the_identifier : (x : Taken) → x.identifier ≡ i
-    the_identifier x = let e = sym x.is_deleted_lem ∙ is in cc
-
-    pub answers_differ : (SameAnswer answer (lookup limit (taken_out_of limit i before) bucket object) → ⊥) → Taken → ⊥
-    answers_differ d x = d (subst (λ j. SameAnswer answer (lookup limit (taken_out_of limit j before) bucket object)) (the_identifier x) x.same)
-
-    pub left_is_not_readable : (ReadablePack limit (taken_out_of limit i before) → ⊥) → Taken → ⊥
-    left_is_not_readable d x = d (subst (λ j. ReadablePack limit (taken_out_of limit j before)) (the_identifier x) x.left)
 
 -- ---- packs of two sites
 

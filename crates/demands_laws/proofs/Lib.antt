@@ -1,0 +1,3 @@
+pub mod Deletion
+pub mod Sheet
+pub mod TellsApart
