@@ -7,7 +7,8 @@ use native.Mathlib.Omega.{arith}
 use Rattle.pack.specs.Reading.{reading}
 use Rattle.pack.specs.Bounds.{Bounded, reading_bounded}
 use Rattle.current_version.specs.Current.{Placed, placed, refused_at, lookup}
-use Rattle.current_version.specs.Exactly.{FirstUnreadable, lookup_exactly}
+use Rattle.current_version.specs.Exactly.{FirstUnreadable}
+use Rattle.current_version.proofs.Exactly.{lookup_exactly}
 
 pub lookup_bounded : (limit : ℕ) (s bucket object : List ℕ) (n p : ℕ) → lookup limit s bucket object ≡ refused_at n p → p ≤ limit
 lookup_bounded limit s bucket object n p e =

@@ -15,7 +15,8 @@ use Rattle.refusals.specs.Limit.{pack_limit}
 use Rattle.pack.proofs.Acceptance.{accepted_reading}
 use Rattle.identifier.specs.Ulid.{ulid_length}
 use Rattle.current_version.specs.Current.{Version, Answer, nothing, found, refused_at, alone, lookup}
-use Rattle.current_version.specs.Exactly.{current_member, lookup_exactly}
+use Rattle.current_version.specs.Exactly.{current_member}
+use Rattle.current_version.proofs.Exactly.{lookup_exactly}
 use Rattle.lookup_records.specs.Answers.{value_in}
 use Rattle.lookup_records.specs.Walk.{placed_from}
 use Rattle.lookup.specs.Search.{walk_ulids}

@@ -1,14 +1,11 @@
 -- The answer of `vof_record`, and lent memory at exit, from what stands at the place: the outcome is the same for the words and for the text, so that nothing is told of one without the other.
 use Prim.Native.Nat.{ℕ, ◌+◌, ◌%◌, ◌^◌, ◌≤◌, ◌<◌}
 use mathlib.Core.Bool.{Bool, true, false}
-use mathlib.Core.List.{List, [], ◌∷◌}
-use mathlib.Core.Logic.{⊎_elim}
+use mathlib.Core.List.{List}
 use mathlib.Core.Option.{some}
 use mathlib.Core.Path.{◌≡◌, refl, sym, ap, subst, ◌∙◌}
 use native.Mathlib.Omega.{arith}
 use borrow.Author.Tests.{le-leb, lt-leb, leb-true, leb-false}
-use denote.Enum.Declared.{tag_of}
-use types.Run.{OneOf}
 use lib.Dec.{leb}
 use lib.ListN.{length, get_or}
 use Rattle.slices.specs.Overwriting.{overwritten, written_bytes, written_within}
@@ -21,7 +18,6 @@ use Rattle.identifier.specs.Identity.{Identity, is_valid}
 use Rattle.held_identifier.specs.Writing.{wrote, refused, outcome_of, outcome as written, left, write_short, write_done}
 use Rattle.held_identifier.specs.declared.Written.{Written}
 use Rattle.held_identifier.specs.declared.Written.TheVariants.{Bytes, Inadmissible, Short}
-use Rattle.held_identifier.specs.contracts.Written.{the_type}
 use Rattle.value.specs.declared.Told.{Told}
 use Rattle.primary.specs.Answers.{texts_in}
 use Rattle.records.specs.Record.{version_delete, Record, primary_in, AtPlace, there, refused_at, alone, record_at, told_from, record_from, there_from}
@@ -103,11 +99,11 @@ module _ (i : Identity) (bytes : List ℕ) (valid : is_valid i ≡ true) (w : Wr
           let same : wrote n ≡ refused 19 = sym (ap outcome_of is) ∙ told ∙ d.0 in
           absurd_numbers (cc)
 
-  pub text_short : OneOf (1 ∷ 2 ∷ []) (tag_of the_type w) → TextShort i bytes after
+  pub text_short : ((n : ℕ) → w ≡ Bytes n → ⊥) → TextShort i bytes after
   text_short other = by (leb (length (composite_text i)) (length bytes)) refl
     where
-      never : (v : Written) (n : ℕ) → OneOf (1 ∷ 2 ∷ []) (tag_of the_type v) → outcome_of v ≡ wrote n → ⊥
-      never (Bytes m) n k e = ⊎_elim (λ (z : 0 ≡ 1). omega arith) (λ (z : 0 ≡ 2). omega arith) k
+      never : (v : Written) (n : ℕ) → ((m : ℕ) → v ≡ Bytes m → ⊥) → outcome_of v ≡ wrote n → ⊥
+      never (Bytes m) n k e = k m refl
       never Inadmissible n k e = absurd_numbers (cc)
       never Short n k e = absurd_numbers (cc)
 

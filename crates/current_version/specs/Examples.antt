@@ -154,8 +154,8 @@ unfolding rows layouts layout head fields bytes_of big_bytes little_bytes little
 rows_hold = refl
 
 -- ---- a front of a pack, such as a copy that stopped between two records, is accepted by itself and can answer otherwise: a newer version may be missing, or
--- the deletion
 
+-- the deletion
 abbrev pub cut_pack : List ℕ
 cut_pack = layouts (vr (plain herd one) ∷ vd one ∷ vr (plain herd two) ∷ [])
 

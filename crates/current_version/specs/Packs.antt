@@ -1,5 +1,5 @@
 -- A pack as a list of records: the lookup's answer depends on their tags and values and on their order; where they stand shows only in the place told.
-use Rattle.std.specs.Prelude.{ℕ, ◌+◌, ◌≤◌, Bool, true, false, cond, ◌↔◌, ◌≡◌, refl, length, take, drop}
+use Rattle.std.specs.Prelude.{ℕ, ◌+◌, ◌≤◌, Bool, true, false, cond, ◌≡◌, refl, length, take, drop}
 use mathlib.Core.List.Memᴰ
 use mathlib.Core.List.{List, [], ◌∷◌, ◌++◌, map, Memᴰ}
 use Rattle.std.proofs.Math.Option.{Option, none, some}
@@ -13,13 +13,11 @@ use Rattle.pack.specs.Reading.{Reading, Ending, whole, reading}
 use Rattle.pack.specs.declared.Entry.{Entry}
 use Rattle.pack.specs.Acceptance.{AllFit, entry_of, entries_of}
 use Rattle.pack.proofs.Acceptance.{layouts_accepted, accepted_exactly, accepted_within}
-use Rattle.identifier.specs.Texts.{less}
 use Rattle.identifier.specs.Identity.{Identity}
 use Rattle.records.specs.Record as records
 use Rattle.records.specs.Record.{read_record, can_be_read}
 use Rattle.records.specs.Laws.{value_there}
-use Rattle.current_version.specs.Current.{Role, version, deletion, other, unreadable, role_by, role_of, is_looked_at, role, Placed, placed_by, value_of, placed, Version, version_by, version_of, filtered, better, best, is_deleted, is_live, current, Answer, nothing, found, refused_at, alone, unreadable_first, readability, answer_of, answer_in, is_name, lookup}
-use Rattle.current_version.specs.Best.{no_version, same_version, ulid_of, best_same}
+use Rattle.current_version.specs.Current.{other, role_by, role_of, is_looked_at, role, Placed, placed_by, value_of, placed, Version, Answer, nothing, found, refused_at, alone, unreadable_first, readability, answer_in, is_name, lookup}
 
 -- ---- records that stand end to end, from a place on
 
@@ -138,9 +136,6 @@ module _ (limit : ℕ) (s : List ℕ) where
         l.2,
       )
 
-  pub readable_exactly : AllBytes s → ReadablePack limit s ↔ ((rs : List Record) × Readable limit rs × (layouts rs ≡ s))
-  readable_exactly bytes = (pack_readable bytes, λ a. readable_pack a.0 a.1 a.2)
-
 -- ---- answers compared: where the record stands is not
 
 pub record SameVersion (v w : Version) : Type 0 where
@@ -166,79 +161,6 @@ SameAnswer (alone n) b = ⊥
 abbrev pub unplaced : ℕ → Record → Placed
 unplaced limit r = placed_by limit 0 r.tag r.value
 
-abbrev forget : Option Version → Option Version
+abbrev pub forget : Option Version → Option Version
 forget none = none
 forget (some v) = some (record { identifier = v.identifier; delete_flag = v.delete_flag; value = v.value; start = 0 })
-
-forget_better : (a b : Option Version) → forget (better a b) ≡ better (forget a) (forget b)
-unfolding better
-forget_better none b = refl
-forget_better (some v) none = refl
-forget_better (some v) (some w) = go (less (ulid_of v) (ulid_of w))
-  where
-    go : (t : Bool) → forget (cond t (some w) (some v)) ≡ cond t (forget (some w)) (forget (some v))
-    go true = refl
-    go false = refl
-
-forget_filtered : (test : Identity → Bool) (at : ℕ) (value : List ℕ) (r : Role)
-    → forget (filtered test (version_by at value r)) ≡ filtered test (version_by 0 value r)
-unfolding filtered
-forget_filtered test at value (version i f) = go (test i)
-  where
-    told : ℕ → Option Version
-    told n = version_by n value (version i f)
-
-    go : (t : Bool) → forget (cond t (told at) none) ≡ cond t (told 0) none
-    go true = refl
-    go false = refl
-forget_filtered test at value (deletion i) = refl
-forget_filtered test at value other = refl
-forget_filtered test at value (unreadable n) = refl
-
-forget_best : (test : Identity → Bool) (limit at : ℕ) (rs : List Record) → forget (best test (standing limit at rs)) ≡ best test (map (unplaced limit) rs)
-unfolding best standing version_of
-forget_best test limit at [] = refl
-forget_best test limit at (r ∷ rs) =
-    forget_better (filtered test (version_by at r.value (role limit r.tag r.value))) (best test (standing limit (at + length (layout r)) rs))
-    ∙ rw (forget_filtered test at r.value (role limit r.tag r.value), forget_best test limit (at + length (layout r)) rs)
-
-deleted_unplaced : (limit at : ℕ) (rs : List Record) (i : Identity) → is_deleted (standing limit at rs) i ≡ is_deleted (map (unplaced limit) rs) i
-unfolding is_deleted standing
-deleted_unplaced limit at [] i = refl
-deleted_unplaced limit at (r ∷ rs) i = rw (deleted_unplaced limit (at + length (layout r)) rs i)
-
-forget_current : (limit at : ℕ) (rs : List Record) (bucket object : List ℕ)
-    → forget (current (standing limit at rs) bucket object) ≡ current (map (unplaced limit) rs) bucket object
-unfolding current is_live
-forget_current limit at rs bucket object =
-    ap forget (best_same (is_live (standing limit at rs) bucket object) (is_live (map (unplaced limit) rs) bucket object)
-    (standing limit at rs) (λ p v m e. rw (deleted_unplaced limit at rs v.identifier)))
-    ∙ forget_best (is_live (map (unplaced limit) rs) bucket object) limit at rs
-
-same_forgotten : (a b : Option Version) → forget a ≡ forget b → SameAnswer (answer_of a) (answer_of b)
-same_forgotten none none e = tt
-same_forgotten none (some w) e = no_version e
-same_forgotten (some v) none e = no_version (sym e)
-same_forgotten (some v) (some w) e =
-    let h = same_version e in
-    record {
-      identifier = cc (ap (λ (x : Version). x.identifier) h);
-      delete_flag = cc (ap (λ (x : Version). x.delete_flag) h);
-      value = cc (ap (λ (x : Version). x.value) h);
-    }
-
--- so packs answer alike where their records do
-pub same_answers : (limit : ℕ) (rs ts : List Record) (bucket object : List ℕ) → Readable limit rs → Readable limit ts → is_name bucket object ≡ true
-    → current (map (unplaced limit) rs) bucket object ≡ current (map (unplaced limit) ts) bucket object
-    → SameAnswer (lookup limit (layouts rs) bucket object) (lookup limit (layouts ts) bucket object)
-unfolding answer_in
-same_answers limit rs ts bucket object a b name e =
-    rw (
-      lookup_layouts limit rs bucket object a.fit a.within name,
-      lookup_layouts limit ts bucket object b.fit
-          b.within name,
-      all_readable limit 0 rs a.all_read,
-      all_readable limit 0 ts b.all_read,
-    )
-    (same_forgotten (current (standing limit 0 rs) bucket object) (current (standing limit 0 ts) bucket object)
-    (forget_current limit 0 rs bucket object ∙ e ∙ sym (forget_current limit 0 ts bucket object)))

@@ -1,8 +1,7 @@
 -- The relations that demand 3, and the lookups of two sites, are said with tell things apart: what differs in one respect alone is not related.
-use Rattle.std.specs.Prelude.{ℕ, suc, ◌+◌, Bool, true, false, cond, ◌≡◌, refl, length, get_or}
-use mathlib.Core.List.Memᴰ
-use mathlib.Core.List.{List, [], ◌∷◌, map, Memᴰ}
-use Rattle.std.proofs.Common.{⊎_elim, sym, ap, subst, subst₂, ◌∙◌, arith}
+use Rattle.std.specs.Prelude.{ℕ, ◌+◌, Bool, true, false, ◌≡◌, refl, length, get_or}
+use mathlib.Core.List.{List, [], ◌∷◌, Memᴰ}
+use Rattle.std.proofs.Common.{sym, ap, ◌∙◌, arith}
 use Rattle.slices.specs.Bytes.{same_bytes, same_bytes_refl}
 use Rattle.slices.specs.Logic.{absurd_numbers, clash}
 use Rattle.refusals.specs.Sheet.{lowest}
@@ -31,12 +30,12 @@ use Rattle.value.specs.Reading as value
 use Rattle.primary.specs.Parts as primary
 use Rattle.primary.specs.Parts.{fills, text_under, texts_under, deleted_under}
 use Rattle.records.specs.Record.{version_tag, is_known, contents, told_rows, read_record, can_be_read}
-use Rattle.current_version.specs.Current.{version, is_looked_at, role, value_of, Version, Answer, nothing, found, refused_at, alone, is_name, lookup}
-use Rattle.current_version.specs.Packs.{value_standing, rest_standing, ReadablePack, of_entry, of_record, tags_and_values, pack_of_read, SameAnswer}
+use Rattle.current_version.specs.Current.{version, is_looked_at, role, value_of, Version, Answer, nothing, found, refused_at, alone, is_name}
+use Rattle.current_version.specs.Packs.{value_standing, rest_standing, ReadablePack, SameAnswer}
 use Rattle.current_version.specs.Alike.{AlikeAnswers, both_nothing, both_found, both_refused, both_alone}
-use Rattle.current_version.specs.Order.{how_often, SameRecords, OneValue}
+use Rattle.current_version.specs.Order.{how_often}
 use Rattle.current_version.specs.Bytes.{times_in, SameRecordsIn, OneValueIn, times_standing}
-use Rattle.current_version.specs.Examples.{herd, scan, one, two, plain, another, vr, Row, told, rows, rows_hold}
+use Rattle.current_version.specs.Examples.{herd, scan, one, two, plain, another, vr, told}
 
 -- ---- answers
 
@@ -104,49 +103,49 @@ module _ (Number Place : ℕ → ℕ → Type 0) (Bytes : List ℕ → List ℕ 
 -- ---- packs
 
 -- two versions with one identifier, and an unknown key in one of them, in either order
-abbrev plain_first : List Record
+abbrev pub plain_first : List Record
 plain_first = vr (plain herd one) ∷ vr (another one) ∷ []
 
-abbrev plain_last : List Record
+abbrev pub plain_last : List Record
 plain_last = vr (another one) ∷ vr (plain herd one) ∷ []
 
 -- two identifiers
-abbrev one_first : List Record
+abbrev pub one_first : List Record
 one_first = vr (plain herd one) ∷ vr (plain herd two) ∷ []
 
-abbrev two_first : List Record
+abbrev pub two_first : List Record
 two_first = vr (plain herd two) ∷ vr (plain herd one) ∷ []
 
-abbrev identifier : ℕ → Identity
+abbrev pub identifier : ℕ → Identity
 identifier x = (told x false [] 0).identifier
 
 -- a `vr` that cannot be read
 abbrev unread : Record
 unread = vr []
 
-abbrev reading_of : List Record → Reading
+abbrev pub reading_of : List Record → Reading
 reading_of rs = record { entries = entries_of 0 rs; ending = whole }
 
-record Computed : Type 0 where
-  plain_first_lem : reading pack_limit (layouts plain_first) ≡ reading_of plain_first
-  plain_last_lem : reading pack_limit (layouts plain_last) ≡ reading_of plain_last
-  one_first_lem : reading pack_limit (layouts one_first) ≡ reading_of one_first
-  two_first_lem : reading pack_limit (layouts two_first) ≡ reading_of two_first
-  one_unread : reading pack_limit (layouts (unread ∷ [])) ≡ reading_of (unread ∷ [])
-  two_unread : reading pack_limit (layouts (unread ∷ unread ∷ [])) ≡ reading_of (unread ∷ unread ∷ [])
-  one_byte : reading pack_limit (0x00 ∷ []) ≡ record { entries = []; ending = refused 2 0 }
-  plain_reads : can_be_read pack_limit version_tag (plain herd one) ≡ true
-  another_reads : can_be_read pack_limit version_tag (another one) ≡ true
-  two_reads : can_be_read pack_limit version_tag (plain herd two) ≡ true
-  unread_is : can_be_read pack_limit version_tag [] ≡ false
-  plain_is : role pack_limit version_tag (plain herd one) ≡ version (identifier one) false
-  another_is : role pack_limit version_tag (another one) ≡ version (identifier one) false
-  two_is : role pack_limit version_tag (plain herd two) ≡ version (identifier two) false
-  last_byte_first : get_or (layouts one_first) 74 0 ≡ one
-  last_byte_second : get_or (layouts two_first) 74 0 ≡ two
-  name : is_name herd scan ≡ true
+pub record Computed : Type 0 where
+  pub plain_first_lem : reading pack_limit (layouts plain_first) ≡ reading_of plain_first
+  pub plain_last_lem : reading pack_limit (layouts plain_last) ≡ reading_of plain_last
+  pub one_first_lem : reading pack_limit (layouts one_first) ≡ reading_of one_first
+  pub two_first_lem : reading pack_limit (layouts two_first) ≡ reading_of two_first
+  pub one_unread : reading pack_limit (layouts (unread ∷ [])) ≡ reading_of (unread ∷ [])
+  pub two_unread : reading pack_limit (layouts (unread ∷ unread ∷ [])) ≡ reading_of (unread ∷ unread ∷ [])
+  pub one_byte : reading pack_limit (0x00 ∷ []) ≡ record { entries = []; ending = refused 2 0 }
+  pub plain_reads : can_be_read pack_limit version_tag (plain herd one) ≡ true
+  pub another_reads : can_be_read pack_limit version_tag (another one) ≡ true
+  pub two_reads : can_be_read pack_limit version_tag (plain herd two) ≡ true
+  pub unread_is : can_be_read pack_limit version_tag [] ≡ false
+  pub plain_is : role pack_limit version_tag (plain herd one) ≡ version (identifier one) false
+  pub another_is : role pack_limit version_tag (another one) ≡ version (identifier one) false
+  pub two_is : role pack_limit version_tag (plain herd two) ≡ version (identifier two) false
+  pub last_byte_first : get_or (layouts one_first) 74 0 ≡ one
+  pub last_byte_second : get_or (layouts two_first) 74 0 ≡ two
+  pub name : is_name herd scan ≡ true
 
-computed : Computed
+pub computed : Computed
 unfolding layouts layout head fields bytes_of big_bytes little_bytes little big add mul rotl fold_high lane taken round
     merge_accumulator converge stripes consume8 consume4 consume1 consume avalanche xxh64 field header_rows value_rows
     lowest header_of step records reading entries_of pass_item pass_head pass_items head_of is_whole content_at integer_of
@@ -186,7 +185,7 @@ unread_is_not_readable a = clash (a.all_read (entry_of 0 unread) (rw computed.on
 
 -- ---- the same records, each as often
 
-times : (rs : List Record) → reading pack_limit (layouts rs) ≡ reading_of rs → (bytes : List ℕ)
+pub times : (rs : List Record) → reading pack_limit (layouts rs) ≡ reading_of rs → (bytes : List ℕ)
     → times_in bytes (layouts rs) (reading pack_limit (layouts rs)).entries ≡ how_often bytes rs
 times rs e bytes = ap (λ (r : Reading). times_in bytes (layouts rs) r.entries) e ∙ times_standing bytes 0 rs (layouts rs) refl
 
@@ -207,52 +206,10 @@ pub record InEitherOrder (s t bucket object : List ℕ) : Type 0 where
   pub same : SameRecordsIn pack_limit s t
   pub name : is_name bucket object ≡ true
 
-swapped : (a b : Record) → SameRecords (a ∷ b ∷ []) (b ∷ a ∷ [])
-unfolding how_often
-swapped a b bytes = go (same_bytes bytes (layout a)) (same_bytes bytes (layout b))
-  where
-    go : (t u : Bool) → cond t (suc (cond u 1 0)) (cond u 1 0) ≡ cond u (suc (cond t 1 0)) (cond t 1 0)
-    go true true = refl
-    go true false = refl
-    go false true = refl
-    go false false = refl
-
--- one of two
-one_of : (P : Record → Type 0) (a b : Record) → P a → P b → (r : Record) → Memᴰ r (a ∷ b ∷ []) → P r
-one_of P a b p q r m =
-    ⊎_elim (λ e. subst P (sym e) p)
-    (λ n. ⊎_elim (λ e. subst P (sym e) q) (λ o. absurd (Memᴰ.not-nil o)) (Memᴰ.cases_cons n)) (Memᴰ.cases_cons m)
-
-in_either_order : (a b : Record) → reading pack_limit (layouts (a ∷ b ∷ [])) ≡ reading_of (a ∷ b ∷ [])
-    → reading pack_limit (layouts (b ∷ a ∷ [])) ≡ reading_of (b ∷ a ∷ [])
-    → can_be_read pack_limit a.tag a.value ≡ true → can_be_read pack_limit b.tag b.value ≡ true
-    → InEitherOrder (layouts (a ∷ b ∷ [])) (layouts (b ∷ a ∷ [])) herd scan
-in_either_order a b ab ba p q = record {
-  first_readable = pack_of_read pack_limit _ (a ∷ b ∷ []) refl ab (λ r m looked. one_of IsRead a b p q r m);
-  second_readable = pack_of_read pack_limit _ (b ∷ a ∷ []) refl ba (λ r m looked. one_of IsRead b a q p r m);
-  same = λ bytes. times (a ∷ b ∷ []) ab bytes ∙ swapped a b bytes ∙ sym (times (b ∷ a ∷ []) ba bytes);
-  name = computed.name;
-}
-  where
-    IsRead : Record → Type 0
-    IsRead r = can_be_read pack_limit r.tag r.value ≡ true
-
 -- ---- ORDER without that premise: two answers that are not the same
 
-values : plain herd one ≡ another one → ⊥
+pub values : plain herd one ≡ another one → ⊥
 values e = let n : ◌≡◌ {A = ℕ} 43 46 = ap length e in omega arith
-
-pub one_value_is_needed : InEitherOrder (layouts plain_first) (layouts plain_last) herd scan
-    × (SameAnswer (lookup pack_limit (layouts plain_first) herd scan) (lookup pack_limit (layouts plain_last) herd scan) → ⊥)
-unfolding rows
-one_value_is_needed = (
-  in_either_order _ _ computed.plain_first_lem computed.plain_last_lem computed.plain_reads computed.another_reads,
-  λ same. values_differ (told one false (plain herd one) 0) (another one) values (subst₂ SameAnswer (row 4) (row 5) same),
-)
-  where
-    row : (k : ℕ) → get_or (map (λ (r : Row). lookup pack_limit r.pack r.bucket r.object) rows) k nothing
-        ≡ get_or (map (λ (r : Row). r.answer) rows) k nothing
-    row k = ap (λ l. get_or l k nothing) rows_hold
 
 pub values_are_told_apart : OneValueIn pack_limit (layouts plain_first) → ⊥
 unfolding layouts entries_of
@@ -266,44 +223,3 @@ values_are_told_apart one_value =
     let second : value_of s e ≡ another one = value_standing (0 + length (layout a)) b [] s (rest_standing 0 a (b ∷ []) s refl) in
     values (sym first ∙ one_value d e (identifier one) false false (rw computed.plain_first_lem (Memᴰ.head refl))
     (rw computed.plain_first_lem (Memᴰ.tail (Memᴰ.head refl))) (rw first computed.plain_is) (rw second computed.another_is) ∙ second)
-
--- ---- and all its premises hold of two packs that are not equal
-
-one_value_in : (rs : List Record) → reading pack_limit (layouts rs) ≡ reading_of rs → OneValue pack_limit rs → OneValueIn pack_limit (layouts rs)
-one_value_in rs read one d e i f g m n p q =
-    let r = there d m in
-    let t = there e n in
-    sym (ap (λ (x : ℕ × List ℕ). x.1) r.2)
-    ∙ one r.0 t.0 i f g r.1 t.1 (ap (λ (x : ℕ × List ℕ). role pack_limit x.0 x.1) r.2 ∙ p)
-    (ap (λ (x : ℕ × List ℕ). role pack_limit x.0 x.1) t.2 ∙ q)
-    ∙ ap (λ (x : ℕ × List ℕ). x.1) t.2
-  where
-    there : (d : Entry) → Memᴰ d (reading pack_limit (layouts rs)).entries
-        → (r : Record) × Memᴰ r rs × (of_record r ≡ of_entry (layouts rs) d)
-    there d m = Memᴰ.of_map of_record rs (subst (Memᴰ (of_entry (layouts rs) d)) (tags_and_values 0 rs (layouts rs) refl)
-        (Memᴰ.map (of_entry (layouts rs)) (subst (λ (r : Reading). Memᴰ d r.entries) read m)))
-
-one_and_two : identifier one ≡ identifier two → ⊥
-one_and_two e = let n : ◌≡◌ {A = ℕ} one two = ap (λ (i : Identity). get_or i.ulid 25 0) e in omega arith
-
-one_value_each : OneValue pack_limit one_first
-one_value_each r t i f g m n =
-    one_of (λ r. IsVersion r f → IsVersion t g → r.value ≡ t.value) _ _
-    (one_of (λ t. IsVersion (vr (plain herd one)) f → IsVersion t g → plain herd one ≡ t.value) _ _ (λ p q. refl)
-    (λ p q. apart (sym computed.plain_is ∙ p) (sym computed.two_is ∙ q)) t n)
-    (one_of (λ t. IsVersion (vr (plain herd two)) f → IsVersion t g → plain herd two ≡ t.value) _ _
-    (λ p q. apart (sym computed.plain_is ∙ q) (sym computed.two_is ∙ p)) (λ p q. refl) t n) r m
-  where
-    IsVersion : Record → Bool → Type 0
-    IsVersion r f = role pack_limit r.tag r.value ≡ version i f
-
-    apart : {A : Type 0} {h k : Bool} → version (identifier one) false ≡ version i h → version (identifier two) false ≡ version i k → A
-    apart p q = absurd (one_and_two (cc))
-
-pub order_applies : InEitherOrder (layouts one_first) (layouts two_first) herd scan × OneValueIn pack_limit (layouts one_first)
-    × (layouts one_first ≡ layouts two_first → ⊥)
-order_applies = (
-  in_either_order _ _ computed.one_first_lem computed.two_first_lem computed.plain_reads computed.two_reads,
-  one_value_in one_first computed.one_first_lem one_value_each,
-  λ e. let n : ◌≡◌ {A = ℕ} one two = sym computed.last_byte_first ∙ ap (λ s. get_or s 74 0) e ∙ computed.last_byte_second in omega arith,
-)

@@ -12,7 +12,7 @@ use Rattle.refusals.specs.Limit.{pack_limit}
 use Rattle.refusals.specs.Answers.{granted}
 use Rattle.value.specs.Header.{telling_of}
 use Rattle.value.specs.declared.Told.{Told}
-use Rattle.records.specs.Record.{Record, AtPlace, there, told_from, record_from, there_from}
+use Rattle.records.specs.Record.{Record, there, told_from, record_from, there_from}
 use Rattle.records.specs.Answers.{record_in, place_of, PlaceInside}
 use Rattle.records.specs.declared.AtPlace as declared-place
 use Rattle.records.specs.declared.AtPlace.TheVariants as place-answer
@@ -21,7 +21,8 @@ use Rattle.records_model.specs.Record as held
 use Rattle.writer.specs.Writing.{Item, value_of, answer_of, written, buffer_after}
 use Rattle.writer.specs.declared.Written.{Written}
 use Rattle.writer_laws.specs.Meaning.{held_of}
-use Rattle.writer_laws.specs.Added.{Tells, IsAdded, value_last, added_means, added_extends}
+use Rattle.writer_laws.specs.Added.{Tells, IsAdded, value_last, added_extends}
+use Rattle.writer_laws.proofs.Added.{added_means}
 use Rattle.demands.specs.Answers.{of_front, read_back_of, read_behind, ReadInside, ReadBackHolds}
 use Rattle.demands.specs.declared.ReadBack.{ReadBack}
 use Rattle.demands.specs.declared.ReadBack.TheVariants.{Read, Short, Inadmissible}

@@ -1,5 +1,5 @@
 -- Document 01's cases A to N, as one table, computed on the definitions.
-use Rattle.std.specs.Prelude.{ℕ, zero, suc, ◌+◌, false, true, List, [], ◌∷◌, ◌++◌, map, ◌≡◌, refl, take, set}
+use Rattle.std.specs.Prelude.{ℕ, zero, suc, false, true, List, [], ◌∷◌, ◌++◌, map, ◌≡◌, refl, take, set}
 use Rattle.slices.specs.Bytes.{same_bytes}
 use Rattle.refusals.specs.Answers as refusals
 use Rattle.refusals.specs.Sheet.{lowest}

@@ -13,12 +13,14 @@ use Rattle.records.specs.Record.{version_delete_tag, Contents, read_record, of_v
 use Rattle.records_model.specs.Record.{RecordHeld, with_held, is_held}
 use Rattle.records_model.specs.Written.{held_alone}
 use Rattle.writer.specs.Writing.{Item, block, version, version_delete, pack_list, deletion, tag_of, value_of, admitted, written, buffer_after}
-use Rattle.writer_laws.specs.Meaning.{held_of, item_reads}
+use Rattle.writer_laws.specs.Meaning.{held_of}
+use Rattle.writer_laws.proofs.Meaning.{item_reads}
 use Rattle.writer_laws.specs.Calls.{record_for}
 use Rattle.writer_laws.specs.Refusals.{written_exactly}
 use Rattle.current_version.specs.Current.{Answer, is_name, lookup}
 use Rattle.current_version.specs.Packs.{ReadablePack, SameAnswer}
-use Rattle.current_version.specs.Bytes.{taken_out_of, taken_out_lem, deletion_answers_as_taken_out}
+use Rattle.current_version.specs.Bytes.{taken_out_of}
+use Rattle.current_version.proofs.Bytes.{taken_out_lem, deletion_answers_as_taken_out}
 use Rattle.writer_laws.specs.Added.{record_appended, total, value_within, before_bytes, item_handed, item_fits}
 
 -- ---- the identifier that a call deletes: the one that a part handed in reads as, or the one that was handed in

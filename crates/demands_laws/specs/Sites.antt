@@ -27,7 +27,8 @@ use Rattle.records_model.proofs.TwoSites.{record_values_alike}
 use Rattle.current_version.specs.Current as current
 use Rattle.current_version.specs.Current.{Role, unreadable, role_by, role_of, is_looked_at, role, value_of, placed, lookup}
 use Rattle.current_version.specs.Packs.{value_standing}
-use Rattle.current_version.specs.Alike.{AlikeRoles, versions, deletions, others, unreadables, AlikePlaced, AlikeAnswers, lookups_alike}
+use Rattle.current_version.specs.Alike.{AlikeRoles, versions, deletions, others, unreadables, AlikePlaced, AlikeAnswers}
+use Rattle.current_version.proofs.Alike.{lookups_alike}
 
 -- ---- packs alike
 

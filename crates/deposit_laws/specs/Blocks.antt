@@ -1,5 +1,5 @@
 -- A deposited block is, byte for byte, what our writer writes for its identifier and data; so equal identifiers and equal data are equal bytes (request 9).
-use Rattle.std.specs.Prelude.{ℕ, ◌+◌, ◌^◌, ◌≤◌, ◌<◌, Bool, true, false, cond, List, [], ◌∷◌, ◌++◌, ◌≡◌, refl, leb, eqb, length, take, drop}
+use Rattle.std.specs.Prelude.{ℕ, ◌^◌, ◌≤◌, ◌<◌, Bool, true, false, cond, List, [], ◌∷◌, ◌++◌, ◌≡◌, refl, leb, eqb, length, take, drop}
 use Rattle.std.proofs.Common.{append-nil, sym, ap, ap₂, subst, ◌∙◌, arith, eqb-true, take-append-drop, length-take, length-drop, take_all}
 use Rattle.std.proofs.Math.Option.{Option, none, some}
 use Rattle.slices.specs.Bytes.{AllBytes, take_bytes, drop_bytes, same_bytes}
@@ -7,7 +7,7 @@ use Rattle.slices.specs.Logic.{absurd_numbers}
 use Rattle.refusals.specs.Answers.{Answer, refused, granted, or_refused}
 use Rattle.msgpack.specs.Items.{Passage, whole, cut, too_deep, pass_over, depth_allowed}
 use Rattle.msgpack.specs.Readers.{Int, plus, minus}
-use Rattle.msgpack.specs.Lookup.{Under, found, if_there, over}
+use Rattle.msgpack.specs.Lookup.{Under, found, missing, broken, if_there, over}
 use Rattle.msgpack.specs.Views.{text_at, byte_view, repeats, SameUnder, both_found, Both, both as both_there, neither, Each, and_each}
 use Rattle.msgpack_forms.specs.Items.{all_short}
 use Rattle.msgpack_model.specs.Values.{Value, Nil, Boolean, Integer, Float, Text, Binary, Extension, Array, Map, Values, no_values_lem, value, Pairs, no_pairs, pair, depth, as_text, as_integer, as_binary, as_array, as_map}
@@ -277,6 +277,8 @@ part_is part c bytes reads short only =
   where
     under : (h : Value) (o : Under (List ℕ)) → o ≡ found only.item → SameUnder Shows o (found h) → as_text h ≡ text_at only.item
     under h (found t) q (both_found z) = let same : t ≡ only.item = cc in sym (bytes_alike.text z) ∙ ap text_at same
+    under h missing q z = elim z [ ]
+    under h broken q z = elim z [ ]
 
 -- ---- what stands under `s`
 
@@ -308,6 +310,8 @@ module _ (s : List ℕ) (only : LengthAlone s) where
       let same : l ≡ only.list = cc in
       one_item x (as_array x) refl
       (subst (λ o. Both (Each Shows) o (value_view.items x)) (ap (λ t. byte_view.items t) same ∙ only.items) (bytes_alike.items z))
+  list_is x missing p z = elim z [ ]
+  list_is x broken p z = elim z [ ]
 
 -- ---- the whole value
 

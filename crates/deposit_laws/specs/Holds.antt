@@ -1,28 +1,27 @@
 -- What the premises of these theorems hold of, and the theorem over calls of the writer said of records that are made from an identifier.
-use Rattle.std.specs.Prelude.{ℕ, ◌+◌, ◌^◌, ◌≤◌, ◌<◌, Bool, true, ◌&&◌, List, [], ◌∷◌, ◌++◌, ◌≡◌, refl, length}
-use Rattle.std.proofs.Common.{sym, ap, subst, ◌∙◌, arith, length-append}
+use Rattle.std.specs.Prelude.{ℕ, ◌+◌, ◌^◌, ◌≤◌, ◌<◌, true, List, ◌++◌, ◌≡◌, refl, length}
+use Rattle.std.proofs.Common.{sym, ap, ◌∙◌, arith, length-append}
 use Rattle.slices.specs.Bytes.{AllBytes}
-use Rattle.refusals.specs.Answers.{Answer, granted, is_result}
-use Rattle.tlv.specs.Layout.{layouts, length_layout}
+use Rattle.refusals.specs.Answers.{granted}
+use Rattle.tlv.specs.Layout.{length_layout}
 use Rattle.pack.specs.Acceptance.{entry_of}
-use Rattle.msgpack_model.specs.Bytes.{encoding_bytes}
 use Rattle.identifier.specs.Identity.{Identity, is_valid}
-use Rattle.identifier.specs.Ulid.{is_ulid}
 use Rattle.primary.specs.Parts as primary
 use Rattle.pack_list.specs.Lists as list
 use Rattle.records.specs.Record.{block_tag, version_tag, version_delete_tag, pack_list_tag, Contents, of_version, of_version_delete, of_pack_list, read_record}
 use Rattle.records_model.specs.Header.{Held}
 use Rattle.records_model.specs.Record.{RecordHeld, with_held, is_held}
-use Rattle.records_model.specs.Written.{held_alone, version_reads_back}
-use Rattle.writer.specs.Values.{block_value, version_part}
-use Rattle.writer.specs.Writing.{Item, block, version, version_delete, pack_list, deletion, item_bytes, admitted}
-use Rattle.writer_laws.specs.Encoded.{IdentityBytes, version_part_encodes}
-use Rattle.writer_laws.specs.Meaning.{held_of, AreBytes, item_reads}
-use Rattle.writer_laws.specs.Calls.{record_for, records_of}
+use Rattle.records_model.specs.Written.{held_alone}
+use Rattle.writer.specs.Values.{block_value}
+use Rattle.writer.specs.Writing.{Item, block, version, version_delete, pack_list, deletion, item_bytes}
+use Rattle.writer_laws.specs.Encoded.{IdentityBytes}
+use Rattle.writer_laws.specs.Meaning.{held_of}
+use Rattle.writer_laws.proofs.Meaning.{item_reads}
+use Rattle.writer_laws.specs.Calls.{record_for}
 use Rattle.writer_laws.specs.ReadBack.{fits}
 use Rattle.deposit_rules.specs.Buckets.{is_bucket_name}
-use Rattle.deposit_laws.specs.Written.{PartKeeps, Depositable, version_keeps}
-use Rattle.deposit_laws.specs.Calls.{value_at_lem, DepositedCalls, calls_deposited}
+use Rattle.deposit_laws.specs.Written.{PartKeeps, Depositable}
+use Rattle.deposit_laws.specs.Calls.{value_at_lem}
 use Rattle.deposit_laws.specs.Blocks.{data_in}
 use Rattle.deposit_laws.specs.Equal.{IsBlock}
 
@@ -54,24 +53,9 @@ pub pack_list_depositable : (p : List ℕ) (v : list.PackList) → list.pack_lis
     → PartKeeps pack_list_tag p → Depositable (pack_list p)
 pack_list_depositable p v reads n k =
     record { handed = k; named = named_well (pack_list p) _ (ap (λ a. with_held (held_alone p) (of_pack_list a)) reads) n }
-
--- ---- the theorem over calls of the writer, said of a block, a version or delete marker, and a deletion that are made from one identifier
+    -- ---- IsBlock: each block that our writer writes, wherever it stands
 
 module _ (limit : ℕ) (small : limit < 2 ^ 32) where
-  pub made_deposited : (i : Identity) (d u : List ℕ) (marker : Bool) (buf : List ℕ) → is_valid i ≡ true → is_ulid u ≡ true → is_bucket_name i.bucket ≡ true
-      → IdentityBytes i → AllBytes d → AllBytes u
-      → length (layouts (records_of (block i d ∷ version (version_part i marker) ∷ deletion i u ∷ []))) ≤ limit
-      → length (layouts (records_of (block i d ∷ version (version_part i marker) ∷ deletion i u ∷ []))) ≤ length buf
-      → DepositedCalls limit small (block i d ∷ version (version_part i marker) ∷ deletion i u ∷ []) buf
-  made_deposited i d u marker buf v w n b c f l m =
-      let part = version_part_encodes i marker v b in
-      let reads = version_reads_back i marker v part in
-      let both_so : (is_valid i && is_ulid u) ≡ true = rw (v, w) in
-      calls_deposited limit small _ buf (v, (ap is_result reads, (both_so, tt))) ((b, c), (encoding_bytes part, ((b, f), tt)))
-      (block_depositable i d n, (version_depositable (version_part i marker) _ reads n (version_keeps i marker v b), (deletion_depositable i u n, tt))) l m
-
-  -- ---- IsBlock: each block that our writer writes, wherever it stands
-
   pub written_is_block : (i : Identity) (d front rest : List ℕ) → IdentityBytes i → AllBytes d → is_valid i ≡ true
       → length (front ++ (item_bytes (block i d) ++ rest)) ≤ limit
       → IsBlock limit (front ++ (item_bytes (block i d) ++ rest)) (entry_of (length front) (record_for (block i d))) i d

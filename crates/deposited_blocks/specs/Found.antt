@@ -17,7 +17,8 @@ use Rattle.records.specs.Record.{block_tag, Record, AtPlace, there, refused_at, 
 use Rattle.deposit.specs.Packs.{value_at, deposit_reading}
 use Rattle.deposit.proofs.Deposited.{deposited_exactly}
 use Rattle.deposit_laws.specs.Blocks.{data_in}
-use Rattle.deposit_laws.specs.Equal.{record_bytes, IsBlock, record_there, equal_bytes}
+use Rattle.deposit_laws.specs.Equal.{record_bytes, IsBlock, record_there}
+use Rattle.deposit_laws.proofs.Equal.{equal_bytes}
 use Rattle.deposited_blocks.specs.Same.{Block, block_in, block_at, if_deposited, deposited_block, same_block, bytes_at, EqualBytes}
 
 -- ---- record number n is one of the pack's

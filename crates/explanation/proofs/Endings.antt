@@ -18,7 +18,7 @@ use Rattle.pack.specs.Reading.{reading, whole}
 use Rattle.pack.specs.Scan.{fitted}
 use Rattle.current_version.specs.Current as current-answer
 use Rattle.current_version.specs.Current.{Placed, placed, Version, lookup}
-use Rattle.current_version.specs.Exactly.{lookup_exactly}
+use Rattle.current_version.proofs.Exactly.{lookup_exactly}
 use Rattle.lookup_records.specs.Walk.{placed_from, Checked, walk_start, walk_all}
 use Rattle.lookup.specs.Answers.{version_in, found_of, FoundInside}
 use Rattle.lookup.specs.declared.Version as declared-version

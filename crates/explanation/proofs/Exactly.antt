@@ -10,7 +10,8 @@ use Rattle.pack.specs.Reading.{reading}
 use Rattle.current_version.specs.Current as current-answer
 use Rattle.current_version.specs.Current.{Placed, placed, Version, version_of, filtered, answer_of, lookup}
 use Rattle.current_version.specs.Best.{same_version}
-use Rattle.current_version.specs.Exactly.{none_exactly, current_exactly, Answers, lookup_exactly}
+use Rattle.current_version.specs.Exactly.{Answers}
+use Rattle.current_version.proofs.Exactly.{none_exactly, current_exactly, lookup_exactly}
 use Rattle.explanation.specs.Reasons.{Reason, current, current_marker, older, repeated, removed, Line, reason_of, line_of, versions_of, lines_of, explained, explain_by, explain}
 use Rattle.explanation.specs.Starts.{pack_rises, one_there}
 use Rattle.explanation.specs.Facts.{Says, told_role}

@@ -15,7 +15,8 @@ use Rattle.identifier.specs.Identity.{Identity, same_identity_refl, same_identit
 use Rattle.current_version.specs.Current as current-answer
 use Rattle.current_version.specs.Current.{Role, version, deletion, other, unreadable, Placed, Version, version_by, version_of, deletes}
 use Rattle.current_version.specs.Best.{ulid_of, same_version}
-use Rattle.current_version.specs.Exactly.{Kept, Live, IsCurrent, current_member, same_name, none_exactly, current_is}
+use Rattle.current_version.specs.Exactly.{Kept, Live, IsCurrent, current_member, same_name}
+use Rattle.current_version.proofs.Exactly.{none_exactly, current_is}
 use Rattle.explanation.specs.Reasons.{Reason, current, current_marker, older, repeated, removed, holds, first_deletion, first_version, unless_removed, unless_repeated, unless_older, reason_of}
 use Rattle.explanation.specs.Starts.{Rising, one_there, behind}
 use Rattle.explanation.specs.Facts.{Earliest, Deletes, Holds, Says, OfName, none_such, such_first, first_such, such_none, told_role}

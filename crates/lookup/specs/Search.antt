@@ -20,7 +20,8 @@ use Rattle.identifier.specs.Identity.{Identity, identity, same_identity, is_buck
 use Rattle.held_identifier.specs.Held.{has_name}
 use Rattle.current_version.specs.Current.{Role, version, deletion, other, unreadable, Placed, value_of, placed, Version, version_of, filtered, better, best, deletes, is_deleted, is_live, current}
 use Rattle.current_version.specs.Roles.{version_told, version_role}
-use Rattle.current_version.specs.Best.{ulid_of, no_version, same_version, Passes, Best, best_member, best_greatest, best_same, best_none, best_found, found_best, none_best}
+use Rattle.current_version.specs.Best.{ulid_of, no_version, same_version, Passes, Best, best_member, best_greatest, best_same}
+use Rattle.current_version.proofs.Best.{best_none, best_found, found_best, none_best}
 use Rattle.current_version.specs.Exactly.{same_name, has_name_lem}
 use Rattle.lookup_records.specs.Walk.{placed_from}
 

@@ -21,7 +21,8 @@ use Rattle.identifier.specs.Identity.{sizes}
 use Rattle.current_version.specs.Current as current-answer
 use Rattle.current_version.specs.Current.{Placed, placed, value_of, Version, version_of, filtered, readability, answer_of, current, answer_in, is_name, lookup}
 use Rattle.current_version.specs.Roles.{version_told, version_role}
-use Rattle.current_version.specs.Exactly.{current_is, current_member}
+use Rattle.current_version.specs.Exactly.{current_member}
+use Rattle.current_version.proofs.Exactly.{current_is}
 use Rattle.explanation.specs.Reasons.{Reason, current_marker, older, repeated, removed, unless_removed, unless_repeated, unless_older, first_deletion, first_version, reason_of, line_of, Line, reason_number, reason_place, rows_of, is_named, with_first, versions_of, lines_of, Answer, explained, refused_at, alone, explain_by, explain}
 use Rattle.explanation.specs.Reasons as explanation
 use Rattle.explanation.specs.Answers.{outcome, told_after, ulid_found}

@@ -5,7 +5,7 @@ use mathlib.Core.List.Memᴰ
 use mathlib.Core.List.{List, [], ◌∷◌, ◌++◌, flatten, append_assoc, append-nil, Memᴰ}
 use Rattle.std.proofs.Math.Logic.{⊎_elim}
 use Rattle.std.proofs.Math.Option.{Option, some}
-use Rattle.std.proofs.Common.{sym, subst, subst₂, ◌∙◌, zero-add, arith, length-take-le, drop-drop}
+use Rattle.std.proofs.Common.{sym, subst, ◌∙◌, zero-add, arith, length-take-le, drop-drop}
 use Rattle.std.proofs.Math.Path.{ap}
 use Rattle.std.proofs.Math.ListN.{length-append}
 use Rattle.std.proofs.Math.Seq.{drop_at, take-append_seam, drop-append_seam}
@@ -37,7 +37,7 @@ use Rattle.writer_laws.specs.Encoded.{IdentityBytes}
 use Rattle.writer_laws.specs.Meaning.{held_of, AreBytes}
 use Rattle.writer_laws.specs.Calls.{record_for}
 use Rattle.writer_laws.specs.Refusals.{written_exactly}
-use Rattle.writer_laws.specs.ReadBack.{Means, fits, means_there}
+use Rattle.writer_laws.specs.ReadBack.{fits}
 
 -- ---- what is written as bytes was handed in as bytes
 
@@ -174,7 +174,7 @@ module _ (limit : ℕ) (small : limit < 2 ^ 32) (item : Item) (used n : ℕ) (bu
       let w = (written_exactly limit (length buf) used item n).0 wrote in
       rw (wrote, ← w.3) (take_overwritten buf used (item_bytes item) w.2)
 
-  told_inside : used ≤ length buf
+  pub told_inside : used ≤ length buf
   told_inside = let w = (written_exactly limit (length buf) used item n).0 wrote in omega arith
 
   pub total : length (take used buf ++ item_bytes item) ≤ limit
@@ -205,14 +205,6 @@ module _ (limit : ℕ) (small : limit < 2 ^ 32) (item : Item) (used n : ℕ) (bu
 
     pub item_fits : Fits (record_for item)
     item_fits = fits limit small item item_handed ((written_exactly limit (length buf) used item n).0 wrote).0 value_within
-
-    pub added_means : Means limit (take n (buffer_after limit used (some item) buf)) item (entry_of used (record_for item))
-    added_means =
-        let w = (written_exactly limit (length buf) used item n).0 wrote in
-        let front : take n (buffer_after limit used (some item) buf) ≡ take used buf ++ (item_bytes item ++ [])
-        = record_appended ∙ ap (λ t. take used buf ++ t) (sym (append-nil (item_bytes item))) in
-        subst₂ (λ s k. Means limit s item (entry_of k (record_for item))) (sym front) (length-take-le used buf told_inside)
-        (means_there limit small item (take used buf) [] item_handed w.0 (rw append-nil total) value_within)
 
     pub added_extends : (reading limit (take used buf)).ending ≡ whole → Extends limit (take used buf) item (take n (buffer_after limit used (some item) buf))
     unfolding layouts entries_of

@@ -1,11 +1,10 @@
 -- What each item means to a reader, and that the value written for it reads as that.
 use Rattle.std.specs.Prelude.{ℕ, ◌+◌, ◌^◌, ◌≤◌, ◌<◌, ◌&&◌, List, ◌++◌, ◌≡◌, length}
 use Rattle.std.proofs.Math.Bool.{true}
-use Rattle.std.proofs.Math.Path.{refl}
-use Rattle.std.proofs.Common.{ap, arith, length-append}
+use Rattle.std.proofs.Common.{arith, length-append}
 use Rattle.slices.specs.Bytes.{AllBytes, cons_bytes, append_bytes}
-use Rattle.slices.specs.Logic.{absurd_numbers, both}
-use Rattle.refusals.specs.Answers.{Answer, refused, granted, is_result}
+use Rattle.slices.specs.Logic.{both}
+use Rattle.refusals.specs.Answers.{Answer, granted}
 use Rattle.msgpack_model.specs.Encoding.{Encodes}
 use Rattle.msgpack_model.specs.Bytes.{encoding_bytes}
 use Rattle.identifier.specs.Identity.{Identity, is_valid}
@@ -42,7 +41,7 @@ AreBytes (deletion i u) = IdentityBytes i × AllBytes u
 
 -- ---- lengths
 
-block_longer : (i : Identity) (d : List ℕ) → length (block_part i) + length d ≤ length (block_value i d)
+pub block_longer : (i : Identity) (d : List ℕ) → length (block_part i) + length d ≤ length (block_value i d)
 unfolding block_value
 block_longer i d = simp length-append (omega arith)
 
@@ -54,71 +53,28 @@ composite_bytes i b = append_bytes (i.ulid ++ _) (append_bytes i.ulid b.ulid (co
 -- ---- each item's value is bytes, and reads as the item means
 
 module _ (limit : ℕ) (small : limit < 2 ^ 32) where
-  abbrev Reads : Item → Type 0
+  abbrev pub Reads : Item → Type 0
   Reads item = record_in (value_of item) (read_record limit (tag_of item) (value_of item)) ≡ held_of item
 
   module _ (i : Identity) (d : List ℕ) (bytes : IdentityBytes i) (v : is_valid i ≡ true) (l : length (block_value i d) ≤ limit) where
-    block_part_lem : Encodes (values.block_part i) (block_part i)
+    pub block_part_lem : Encodes (values.block_part i) (block_part i)
     block_part_lem = block_part_encodes i v (composite_bytes i bytes)
 
-    block_header_lem : Encodes (values.block_header (length d) (block_part i)) (block_header (length d) (length (block_part i)) ++ block_part i)
+    pub block_header_lem : Encodes (values.block_header (length d) (block_part i)) (block_header (length d) (length (block_part i)) ++ block_part i)
     block_header_lem = let n = block_longer i d in block_header_encodes (block_part i) (encoding_bytes block_part_lem) (omega arith) (length d) (omega arith)
 
     block_bytes : AllBytes d → AllBytes (block_value i d)
     unfolding block_value
     block_bytes b = append_bytes (block_header (length d) (length (block_part i)) ++ block_part i) (encoding_bytes block_header_lem) b
 
-    block_reads : Reads (block i d)
-    unfolding block_value
-    block_reads = let n = block_longer i d in block_reads_back limit i d v (omega arith) block_part_lem block_header_lem
-
   module _ (p : List ℕ) (bytes : AllBytes p) (l : length (part_value p) ≤ limit) where
-    part_value_lem : Encodes (values.plain_header p) (part_value p)
+    pub part_value_lem : Encodes (values.plain_header p) (part_value p)
     part_value_lem = part_value_encodes p bytes (omega (arith, content_within (version p)))
-
-    part_reads : (tag : ℕ) (c : Contents) → is_known tag ≡ true → contents tag p ≡ granted c
-        → record_in (part_value p) (read_record limit tag (part_value p)) ≡ granted (record { held = held_alone p; contents = c })
-    part_reads tag c known reads = plain_reads_back limit tag c known reads part_value_lem
-
-    version_reads : is_result (primary.version p) ≡ true → Reads (version p)
-    unfolding contents is_known
-    version_reads a = by (primary.version p) refl a
-      where
-        by : (r : Answer primary.Version) → primary.version p ≡ r → is_result r ≡ true
-            → record_in (part_value p) (read_record limit version_tag (part_value p)) ≡ with_held (held_alone p) (of_version (primary.version p))
-        by (granted v) e t = rw e (part_reads version_tag (record { identifier = v.identifier; kind = records.version v.deleted }) refl (ap of_version e))
-        by (refused n) e t = absurd_numbers (cc)
-
-    version_delete_reads : is_result (primary.version_delete p) ≡ true → Reads (version_delete p)
-    unfolding contents is_known
-    version_delete_reads a = by (primary.version_delete p) refl a
-      where
-        by : (r : Answer primary.VersionDelete) → primary.version_delete p ≡ r → is_result r ≡ true
-            → record_in (part_value p) (read_record limit version_delete_tag (part_value p)) ≡ with_held (held_alone p) (of_version_delete (primary.version_delete p))
-        by (granted v) e t = rw e (part_reads version_delete_tag
-            (record { identifier = v.identifier; kind = records.version_delete v.delete_id }) refl (ap of_version_delete e))
-        by (refused n) e t = absurd_numbers (cc)
-
-    pack_list_reads : is_result (list.pack_list p) ≡ true → Reads (pack_list p)
-    unfolding contents is_known
-    pack_list_reads a = by (list.pack_list p) refl a
-      where
-        by : (r : Answer list.PackList) → list.pack_list p ≡ r → is_result r ≡ true
-            → record_in (part_value p) (read_record limit pack_list_tag (part_value p)) ≡ with_held (held_alone p) (of_pack_list (list.pack_list p))
-        by (granted v) e t = rw e (part_reads pack_list_tag
-            (record { identifier = v.identifier; kind = records.pack_list v.entries }) refl (ap of_pack_list e))
-        by (refused n) e t = absurd_numbers (cc)
 
   module _ (i : Identity) (u : List ℕ) (bytes : IdentityBytes i × AllBytes u) (a : (is_valid i && is_ulid u) ≡ true)
       (l : length (part_value (delete_part i u)) ≤ limit) where
-    delete_part_lem : Encodes (values.delete_part i u) (delete_part i u)
+    pub delete_part_lem : Encodes (values.delete_part i u) (delete_part i u)
     delete_part_lem = let t = both (is_valid i) (is_ulid u) a in delete_part_encodes i u t.0 t.1 bytes.0 bytes.1
-
-    deletion_reads : Reads (deletion i u)
-    unfolding is_known
-    deletion_reads =
-        let t = both (is_valid i) (is_ulid u) a in
-        part_reads (delete_part i u) (encoding_bytes delete_part_lem) l version_delete_tag _ refl (delete_reads_back i u t.0 t.1 delete_part_lem)
 
   pub item_bytes_lem : (item : Item) → AreBytes item → admitted item ≡ true → length (value_of item) ≤ limit → AllBytes (value_of item)
   item_bytes_lem (block i d) b a l = block_bytes i d b.0 a l b.1
@@ -126,10 +82,3 @@ module _ (limit : ℕ) (small : limit < 2 ^ 32) where
   item_bytes_lem (version_delete p) b a l = encoding_bytes (part_value_lem p b l)
   item_bytes_lem (pack_list p) b a l = encoding_bytes (part_value_lem p b l)
   item_bytes_lem (deletion i u) b a l = encoding_bytes (part_value_lem (delete_part i u) (encoding_bytes (delete_part_lem i u b a l)) l)
-
-  pub item_reads : (item : Item) → AreBytes item → admitted item ≡ true → length (value_of item) ≤ limit → Reads item
-  item_reads (block i d) b a l = block_reads i d b.0 a l
-  item_reads (version p) b a l = version_reads p b l a
-  item_reads (version_delete p) b a l = version_delete_reads p b l a
-  item_reads (pack_list p) b a l = pack_list_reads p b l a
-  item_reads (deletion i u) b a l = deletion_reads i u b a l

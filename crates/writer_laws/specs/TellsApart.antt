@@ -1,12 +1,11 @@
 -- The relations that the read-back is said with tell things apart: what differs in one respect alone is not related.
-use Rattle.std.specs.Prelude.{ℕ, ◌≡◌, length, take, drop}
+use Rattle.std.specs.Prelude.{ℕ, ◌≡◌, length}
 use mathlib.Core.List.{List, [], ◌∷◌, ◌++◌, Memᴰ}
-use Rattle.std.proofs.Math.Option.{none, some}
-use Rattle.std.proofs.Common.{sym, ap, subst, ◌∙◌}
+use Rattle.std.proofs.Math.Option.{none}
+use Rattle.std.proofs.Common.{sym, ap, ◌∙◌}
 use Rattle.slices.specs.Logic.{absurd_numbers}
 use Rattle.slices.specs.Places.{part_at}
 use Rattle.slices.specs.declared.Place.{Place}
-use Rattle.refusals.specs.Limit.{pack_limit}
 use Rattle.refusals.specs.Answers.{granted}
 use Rattle.pack.specs.declared.Entry.{Entry}
 use Rattle.pack.specs.Reading.{Reading, whole, reading}
@@ -19,7 +18,7 @@ use Rattle.records.specs.declared.AtPlace.TheVariants as place-answer
 use Rattle.records_model.specs.Record.{record_in}
 use Rattle.writer.specs.Writing.{Item, tag_of, value_of}
 use Rattle.writer_laws.specs.Meaning.{held_of}
-use Rattle.writer_laws.specs.Calls.{all_written, stopped, write_all, record_for}
+use Rattle.writer_laws.specs.Calls.{stopped, write_all, record_for}
 use Rattle.writer_laws.specs.ReadBack.{Means, AllMean, next, ReadsBack}
 use Rattle.writer_laws.specs.Added.{Extends, Tells, IsAdded}
 
@@ -49,22 +48,6 @@ module _ (limit : ℕ) (items : List Item) (buf : List ℕ) where
   pub call_is_refused : (n : ℕ) → write_all limit items 0 buf ≡ stopped n → ReadsBack limit items buf → ⊥
   call_is_refused n is x = let e = sym is ∙ x.written in absurd_numbers (cc)
 
-  module _ (n : ℕ) (exit : List ℕ) (is : write_all limit items 0 buf ≡ all_written n exit) (x : ReadsBack limit items buf) where
-    same_count : x.count ≡ n
-    same_count = let e = sym x.written ∙ is in cc
-
-    same_exit : x.exit ≡ exit
-    same_exit = let e = sym x.written ∙ is in cc
-
-    pub bytes_behind_differ : (drop n exit ≡ drop n buf → ⊥) → ⊥
-    bytes_behind_differ d = d (rw (← same_count, ← same_exit) x.behind)
-
-    pub pack_is_refused : ((reading limit (take n exit)).ending ≡ whole → ⊥) → ⊥
-    pack_is_refused d = d (rw (← same_count, ← same_exit) x.accepted)
-
-    pub readings_differ : (AllMean limit (take n exit) items (reading limit (take n exit)).entries → ⊥) → ⊥
-    readings_differ d = d (rw (← same_count, ← same_exit) x.reads)
-
 -- ---- a record added
 
 module _ (s : List ℕ) (item : Item) where
@@ -93,13 +76,3 @@ module _ (limit : ℕ) (before : List ℕ) (item : Item) (extended : List ℕ) (
 module _ (before front : List ℕ) (p : declared-place.AtPlace) where
   pub nothing_is_asked : IsAdded none before front p → ⊥
   nothing_is_asked x = let e = x.is_asked_lem in absurd_numbers (cc)
-
-  module _ (item : Item) (x : IsAdded (some item) before front p) where
-    the_item : x.item ≡ item
-    the_item = let e = x.is_asked_lem in cc
-
-    pub another_item_is_told : (Tells front item p → ⊥) → ⊥
-    another_item_is_told d = d (subst (λ i. Tells front i p) the_item x.tells)
-
-    pub pack_is_not_extended : (reading pack_limit before).ending ≡ whole → (Extends pack_limit before item front → ⊥) → ⊥
-    pack_is_not_extended accepted d = d (subst (λ i. Extends pack_limit before i front) the_item (x.extends accepted))

@@ -2,7 +2,7 @@
 -- admitted, and reads back so.
 use Rattle.std.specs.Prelude.{ℕ, Bool, true, false, cond, List, ◌≡◌, refl, leb, length, take}
 use Rattle.std.proofs.Math.Option.{Option, none, some}
-use Rattle.std.proofs.Common.{sym, ap, ◌∙◌, arith, leb-true}
+use Rattle.std.proofs.Common.{ap, arith, leb-true}
 use Rattle.slices.specs.Bytes.{AllBytes}
 use Rattle.slices.specs.Logic.{absurd_numbers}
 use Rattle.slices.specs.Overwriting.{overwritten_there}
@@ -11,16 +11,12 @@ use Rattle.identifier.specs.Identity.{Identity, is_valid}
 use Rattle.primary.specs.Parts as primary
 use Rattle.records.specs.Record as records
 use Rattle.records.specs.Record.{of_version}
-use Rattle.records.specs.Answers.{record_in}
-use Rattle.records.specs.declared.AtPlace as declared-place
-use Rattle.records_model.specs.Record as held
-use Rattle.records_model.specs.Record.{RecordHeld, with_held}
+use Rattle.records_model.specs.Record.{RecordHeld}
 use Rattle.records_model.specs.Written.{held_alone, version_reads_back}
 use Rattle.writer.specs.Values.{marker_pairs, version_part}
 use Rattle.writer.specs.Writing.{version, item_bytes, counted, written, left_by, version_part_of, part_written, part_after}
 use Rattle.writer_laws.specs.Encoded.{version_part_encodes}
-use Rattle.writer_laws.specs.Meaning.{held_of}
-use Rattle.writer_laws.specs.Added.{identity_map_bytes, IsAdded}
+use Rattle.writer_laws.specs.Added.{identity_map_bytes}
 
 -- the part and no data, this identifier and this delete flag
 abbrev pub version_held : Identity → Bool → RecordHeld
@@ -38,17 +34,6 @@ module _ (i : Identity) (marker : Bool) (rules : is_valid i ≡ true) (bytes : A
       → written limit room used (some (version (version_part i marker))) ≡ counted limit room used (length (item_bytes (version (version_part i marker))))
   unfolding written
   version_part_admitted limit room used = rw (ap is_result version_part_reads)
-
-  means : held_of (version (version_part i marker)) ≡ granted (version_held i marker)
-  means = ap (λ v. with_held (held_alone (version_part i marker)) (of_version v)) version_part_reads
-
-  -- and the record that is then read is this version
-  pub version_part_reads_back : (before front : List ℕ) (p : declared-place.AtPlace) (added : IsAdded (some (version (version_part i marker))) before front p)
-      → held.record_in front (granted (record_in front added.tells.found)) ≡ granted (version_held i marker)
-  version_part_reads_back before front p added =
-      let is = added.is_asked_lem in
-      let same : version (version_part i marker) ≡ added.item = cc in
-      added.tells.holds ∙ ap held_of (sym same) ∙ means
 
 -- ---- the call, which leaves the part at the front of its buffer, where it tells a length
 

@@ -42,34 +42,35 @@ added c =
     let r = c in
     let old = (in_loop (goal.at.Joined-read_integer c).After-read_integer).loop-k.sums in
     elim c.match-read_integer.branch [
-    in-NonNegative+then-k-blocks w ↦
-      record {
-        delta = plus w.in-NonNegative.n;
-        is = sym (read-2 r) ∙ ap integer_read w.in-NonNegative.is;
-        added = λ l. subst (λ x. WithDelta (plus w.in-NonNegative.n) old x) (sym w.sums-is) w.with_gain-sums.ensures;
-        passed = λ l. absurd (omega (arith, w.if-k-blocks.true));
-      }
-    | in-NonNegative+else-k-blocks w ↦
-      record {
-        delta = plus w.in-NonNegative.n;
-        is = sym (read-2 r) ∙ ap integer_read w.in-NonNegative.is;
-        added = λ l. absurd (omega (arith, w.if-k-blocks.false));
-        passed = λ l. w.sums-is;
-      }
-    | in-Negative+then-k-blocks-2 w ↦
-      record {
-        delta = minus w.in-Negative.n;
-        is = sym (read-2 r) ∙ ap integer_read w.in-Negative.is;
-        added = λ l. subst (λ x. WithDelta (minus w.in-Negative.n) old x) (sym w.sums-is) w.with_loss-sums.ensures;
-        passed = λ l. absurd (omega (arith, w.if-k-blocks-2.true));
-      }
-    | in-Negative+else-k-blocks-2 w ↦
-      record {
-        delta = minus w.in-Negative.n;
-        is = sym (read-2 r) ∙ ap integer_read w.in-Negative.is;
-        added = λ l. absurd (omega (arith, w.if-k-blocks-2.false));
-        passed = λ l. w.sums-is;
-      } ]
+      | in-NonNegative+then-k-blocks w ↦
+          record {
+            delta = plus w.in-NonNegative.n;
+            is = sym (read-2 r) ∙ ap integer_read w.in-NonNegative.is;
+            added = λ l. subst (λ x. WithDelta (plus w.in-NonNegative.n) old x) (sym w.sums-is) w.with_gain-sums.ensures;
+            passed = λ l. absurd (omega (arith, w.if-k-blocks.true));
+          }
+      | in-NonNegative+else-k-blocks w ↦
+          record {
+            delta = plus w.in-NonNegative.n;
+            is = sym (read-2 r) ∙ ap integer_read w.in-NonNegative.is;
+            added = λ l. absurd (omega (arith, w.if-k-blocks.false));
+            passed = λ l. w.sums-is;
+          }
+      | in-Negative+then-k-blocks-2 w ↦
+          record {
+            delta = minus w.in-Negative.n;
+            is = sym (read-2 r) ∙ ap integer_read w.in-Negative.is;
+            added = λ l. subst (λ x. WithDelta (minus w.in-Negative.n) old x) (sym w.sums-is) w.with_loss-sums.ensures;
+            passed = λ l. absurd (omega (arith, w.if-k-blocks-2.true));
+          }
+      | in-Negative+else-k-blocks-2 w ↦
+          record {
+            delta = minus w.in-Negative.n;
+            is = sym (read-2 r) ∙ ap integer_read w.in-Negative.is;
+            added = λ l. absurd (omega (arith, w.if-k-blocks-2.false));
+            passed = λ l. w.sums-is;
+          }
+    ]
 
 pub overflow_add-k : goal.overflow_add-k
 overflow_add-k c = omega arith

@@ -52,7 +52,7 @@ returns-in-Entry-clause-inside c =
     let a = k in
     let told = d.in-Entry.ensures.result_value in
     next_inside _ _ _ _ _ (d.entry_at.ensures.inside.here _ _ c.in-Entry.is)
-          (λ x q. (tests_tell a.args.part.now (item_at_lem (goal.at.returns-in-Entry-clause-inside c).Start) _ _ x told q).blocks)
+    (λ x q. (tests_tell a.args.part.now (item_at_lem (goal.at.returns-in-Entry-clause-inside c).Start) _ _ x told q).blocks)
 
 pub returns-in-Missing-clause-result_value : goal.returns-in-Missing-clause-result_value
 unfolding next_entry

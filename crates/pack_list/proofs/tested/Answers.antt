@@ -56,7 +56,7 @@ returns-clause-result_value c =
     let summed = d.deltas_summed.ensures.summed _ k.in-Summed.is in
     let named = u.is_ulid.ensures ∙ ap is_ulid u.part.ensures.result_value in
     entry_tested _ _ _ _ l.lengths l.are _ l.left _ d.with_rest-blocks.ensures _ summed _ _ _ _ _ named
-          c.is_short.ensures c.is_short-2.ensures l.is c.stride_for.ensures
+    c.is_short.ensures c.is_short-2.ensures l.is c.stride_for.ensures
 
 pub returns-clause-pack : goal.returns-clause-pack
 returns-clause-pack c =

@@ -113,7 +113,7 @@ pub returns-in_default-text_under-clause-result_value : goal.returns-in_default-
 returns-in_default-text_under-clause-result_value c =
     let t = c in
     delete_is _ (whole_at_texts (goal.at.returns-in_default-text_under-clause-result_value t).In-At) _ none _ (texts (goal.at.returns-in_default-text_under-clause-result_value t).In-At)
-          (sym (ap (text_of t.args.part.now) c.in_default-text_under.is) ∙ text_read (goal.at.returns-in_default-text_under-clause-result_value c).After-text_under) refl
+    (sym (ap (text_of t.args.part.now) c.in_default-text_under.is) ∙ text_read (goal.at.returns-in_default-text_under-clause-result_value c).After-text_under) refl
 
 pub returns-in_default-text_under-clause-inside : goal.returns-in_default-text_under-clause-inside
 returns-in_default-text_under-clause-inside c = no_delete _ _

@@ -23,7 +23,7 @@ returns-then-tag-eq-VERSION-clause-inside c = c.version.ensures.inside
 pub returns-then-tag-eq-VERSION_DELETE-clause-result_value : goal.returns-then-tag-eq-VERSION_DELETE-clause-result_value
 unfolding contents
 returns-then-tag-eq-VERSION_DELETE-clause-result_value c = c.version_delete.ensures.result_value
-      ∙ rw (ne_eqb _ _ c.if-tag-eq-BLOCK.false, ne_eqb _ _ c.if-tag-eq-VERSION.false, eq-eqb _ _ c.if-tag-eq-VERSION_DELETE.true)
+    ∙ rw (ne_eqb _ _ c.if-tag-eq-BLOCK.false, ne_eqb _ _ c.if-tag-eq-VERSION.false, eq-eqb _ _ c.if-tag-eq-VERSION_DELETE.true)
 
 pub returns-then-tag-eq-VERSION_DELETE-clause-inside : goal.returns-then-tag-eq-VERSION_DELETE-clause-inside
 unfolding contents
@@ -32,7 +32,7 @@ returns-then-tag-eq-VERSION_DELETE-clause-inside c = c.version_delete.ensures.in
 pub returns-clause-result_value : goal.returns-clause-result_value
 unfolding contents
 returns-clause-result_value c = c.pack_list.ensures.result_value
-      ∙ rw (ne_eqb _ _ c.if-tag-eq-BLOCK.false, ne_eqb _ _ c.if-tag-eq-VERSION.false, ne_eqb _ _ c.if-tag-eq-VERSION_DELETE.false)
+    ∙ rw (ne_eqb _ _ c.if-tag-eq-BLOCK.false, ne_eqb _ _ c.if-tag-eq-VERSION.false, ne_eqb _ _ c.if-tag-eq-VERSION_DELETE.false)
 
 pub returns-clause-inside : goal.returns-clause-inside
 unfolding contents

@@ -1,5 +1,5 @@
 -- An entry less is left each time, and nothing else has to hold.
 use Rattle.record_vectors.proofs.pack_lists.say_entries.Given as goal
 
-abbrev pub decreases-loop-at : goal.decreases-loop-at
-decreases-loop-at g l = l.left
+abbrev pub decreases-loop-left : goal.decreases-loop-left
+decreases-loop-left g l = l.left

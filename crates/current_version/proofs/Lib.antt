@@ -1,0 +1,9 @@
+pub mod Best
+pub mod Exactly
+pub mod Packs
+pub mod Deletion
+pub mod Order
+pub mod Bytes
+pub mod Alike
+pub mod PassedOver
+pub mod TellsApart

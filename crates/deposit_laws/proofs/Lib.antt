@@ -1,0 +1,4 @@
+pub mod Written
+pub mod Calls
+pub mod Equal
+pub mod Holds

@@ -1,0 +1,5 @@
+pub mod Meaning
+pub mod ReadBack
+pub mod Added
+pub mod VersionPart
+pub mod TellsApart
