@@ -2,3 +2,5 @@ mod Searches
 mod Rows
 mod Lines
 mod Endings
+pub mod Facts
+pub mod Exactly
