@@ -31,7 +31,7 @@ admitted, or would make the pack too long, and because of what; 19 where the rec
 into the buffer.
 
 The shared object that this module loads stands beside it, as libvof.so; in the repository that is a
-link to dist/libvof.so, which bin/build-library makes. The environment variable VOF_LIBRARY names
+copy of dist/libvof.so, which bin/build-library makes. The environment variable VOF_LIBRARY names
 another.
 """
 import ctypes
