@@ -4,25 +4,20 @@ use Rattle.why_current.proofs.put_reason.Goals as goal
 
 pub returns-then-reason-eq-OLDER : goal.returns-then-reason-eq-OLDER
 returns-then-reason-eq-OLDER c =
-    let b = c in
-    older_put b.args.place b.args.ulid.now b.requires.1 b.args.reason c.if-reason-eq-OLDER.true b.requires.0 c.put-word.ensures c.put.ensures
+    older_put c.args.place c.args.ulid.now c.requires.1 c.args.reason c.if-reason-eq-OLDER.true c.requires.0 c.put-word.ensures c.put.ensures
 
 pub returns-then-reason-eq-REPEATED : goal.returns-then-reason-eq-REPEATED
 returns-then-reason-eq-REPEATED c =
-    let b = c in
-    repeated_put b.args.place b.args.ulid.now b.requires.1 b.args.reason c.if-reason-eq-REPEATED.true c.put-word-then-reason-eq-REPEATED.ensures c.put_decimal.ensures
+    repeated_put c.args.place c.args.ulid.now c.requires.1 c.args.reason c.if-reason-eq-REPEATED.true c.put-word-then-reason-eq-REPEATED.ensures c.put_decimal.ensures
 
 pub returns-then-reason-eq-REMOVED : goal.returns-then-reason-eq-REMOVED
 returns-then-reason-eq-REMOVED c =
-    let b = c in
-    removed_put b.args.place b.args.ulid.now b.requires.1 b.args.reason c.if-reason-eq-REMOVED.true c.put-word-then-reason-eq-REMOVED.ensures c.put_decimal-then-reason-eq-REMOVED.ensures
+    removed_put c.args.place c.args.ulid.now c.requires.1 c.args.reason c.if-reason-eq-REMOVED.true c.put-word-then-reason-eq-REMOVED.ensures c.put_decimal-then-reason-eq-REMOVED.ensures
 
 pub returns-then-reason-eq-CURRENT_MARKER : goal.returns-then-reason-eq-CURRENT_MARKER
 returns-then-reason-eq-CURRENT_MARKER c =
-    let b = c in
-    marker_put b.args.place b.args.ulid.now b.requires.1 b.args.reason c.if-reason-eq-CURRENT_MARKER.true c.put-then-reason-eq-CURRENT_MARKER.ensures
+    marker_put c.args.place c.args.ulid.now c.requires.1 c.args.reason c.if-reason-eq-CURRENT_MARKER.true c.put-then-reason-eq-CURRENT_MARKER.ensures
 
 pub returns : goal.returns
 returns c =
-    let b = c in
-    current_put b.args.place b.args.ulid.now b.requires.1 b.args.reason c.if-reason-eq-OLDER.false c.if-reason-eq-REPEATED.false c.if-reason-eq-REMOVED.false c.if-reason-eq-CURRENT_MARKER.false c.put-2.ensures
+    current_put c.args.place c.args.ulid.now c.requires.1 c.args.reason c.if-reason-eq-OLDER.false c.if-reason-eq-REPEATED.false c.if-reason-eq-REMOVED.false c.if-reason-eq-CURRENT_MARKER.false c.put-2.ensures

@@ -6,11 +6,9 @@ use Rattle.why_current.proofs.put_row.Goals as goal
 
 pub put_reason-after-requires : goal.put_reason-after-requires
 put_reason-after-requires c =
-    let b = c in
-    (b.requires.0, room_behind b.args.start 32 (omega (arith, b.requires.1)) c.put_decimal-number.ensures c.put-before.ensures)
+    (c.requires.0, room_behind c.args.start 32 (omega (arith, c.requires.1)) c.put_decimal-number.ensures c.put-before.ensures)
 
 pub returns : goal.returns
 returns c =
-    let b = c in
-    row_put b.args.start b.args.reason b.args.place b.args.ulid.now b.requires.0 b.requires.1
+    row_put c.args.start c.args.reason c.args.place c.args.ulid.now c.requires.0 c.requires.1
     c.put_decimal-number.ensures c.put-before.ensures c.put_reason-after.ensures c.put.ensures
