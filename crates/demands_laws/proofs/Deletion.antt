@@ -12,7 +12,7 @@ use Rattle.records.specs.Record.{version_delete_tag, Contents, read_record, of_v
 use Rattle.records_model.specs.Record.{with_held, is_held}
 use Rattle.records_model.specs.Written.{held_alone}
 use Rattle.writer.specs.Writing.{Item, block, version, version_delete, pack_list, deletion, tag_of, value_of, admitted, written, buffer_after}
-use Rattle.writer_laws.specs.Meaning.{item_reads}
+use Rattle.writer_laws.proofs.Meaning.{item_reads}
 use Rattle.writer_laws.specs.Calls.{record_for}
 use Rattle.writer_laws.specs.Refusals.{written_exactly}
 use Rattle.current_version.specs.Current.{is_name, lookup}
