@@ -30,5 +30,5 @@ returns-in_default-deposited_block-clause-bytes c =
 pub returns : goal.returns
 returns c =
     let e = subst (Answers _ _ (all_bytes _ c.type_inv.first) (all_bytes _ c.type_inv.second) _ _) (sym (λ i. c.same_texts.ensures i && c.same_part.ensures i))
-        (answers _ _ (all_bytes _ c.type_inv.first) (all_bytes _ c.type_inv.second) _ _ _ _ c.in-Block.ensures c.in-Block-deposited_block.ensures) in
+    (answers _ _ (all_bytes _ c.type_inv.first) (all_bytes _ c.type_inv.second) _ _ _ _ c.in-Block.ensures c.in-Block-deposited_block.ensures) in
     record { value = e.0; bytes = e.1 }
