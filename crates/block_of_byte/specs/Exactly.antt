@@ -16,7 +16,8 @@ use Rattle.pack_list.specs.Blocks.{blocks, stored_lengths, stride, holds, holder
 use Rattle.block_of_byte.specs.Finding.{sources, block_from, Found, nowhere, in_entry, in_block, found_by, block_in, found_in, find}
 use Rattle.block_of_byte.specs.declared.Block.{Block}
 use Rattle.pack_list.specs.Stride.{Counted}
-use Rattle.pack_list.specs.Lengths.{stored_range, Inside, stored_inside}
+use Rattle.pack_list.specs.Lengths.{stored_range, Inside}
+use Rattle.pack_list.proofs.LengthLaws.{stored_inside}
 use Rattle.block_of_byte.specs.Sources.{IsSources, sources_exactly, NoSources, no_sources_exactly, there}
 
 -- ---- the block of an entry that holds a byte

@@ -5,7 +5,7 @@ use Rattle.std.proofs.Common.{arith}
 use Rattle.refusals.specs.Answers.{granted}
 use Rattle.pack_list.specs.Lists.{Entry, PackList, greatest, pack_list}
 use Rattle.pack_list.specs.Lengths.{Inside}
-use Rattle.pack_list.specs.Reading.{list_exactly}
+use Rattle.pack_list.proofs.ReadingLaws.{list_exactly}
 use Rattle.block_of_byte.specs.Finding.{in_block, find}
 use Rattle.block_of_byte.specs.declared.Block.{Block}
 use Rattle.block_of_byte.specs.Exactly.{find_exactly, told_inside}

@@ -1,3 +1,4 @@
 pub mod Packing
 pub mod Written
 pub mod Calls
+pub mod Exactly

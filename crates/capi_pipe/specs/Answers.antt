@@ -1,5 +1,5 @@
 -- A pipe's calls in words: what each answers, tells and leaves.
-use Rattle.std.specs.Prelude.{ℕ, Bool, true, false, cond, List, [], ◌∷◌, ◌≡◌, leb, length}
+use Rattle.std.specs.Prelude.{ℕ, Bool, true, false, cond, List, [], ◌∷◌, ◌≡◌, leb}
 use Rattle.slices.specs.Overwriting.{written_bytes}
 use Rattle.pipe.specs.Limit.{pipe_limit}
 use Rattle.pipe.specs.Taking.{Progress, Notice, wanted, complete, refusal, over, malformed, Call, take, finish}

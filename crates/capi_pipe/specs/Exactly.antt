@@ -6,7 +6,7 @@ use Rattle.slices.specs.Logic.{not_so, absurd_numbers}
 use Rattle.pipe.specs.Limit.{pipe_limit}
 use Rattle.pipe.specs.Taking.{Phase, in_header, in_value, Going, Progress, going, refused, ended, at_start}
 use Rattle.pipe.specs.Taking.{Notice, wanted, complete, refusal, over, malformed, Call, cut, close, notice_of, fits, finish}
-use Rattle.pipe.specs.Step.{Stands, take_unfit, take_fits, take_stands, close_fits, refused_for_ever, ended_for_ever}
+use Rattle.pipe.specs.Step.{Stands, take_fits, take_stands, close_fits, refused_for_ever, ended_for_ever}
 use Rattle.words.specs.Words.{answer}
 use Rattle.capi_pipe.specs.State.{progress_in, Says}
 use Rattle.capi_pipe.specs.WellFormed.{fits_refused, WellFormed, well_formed_exactly}
@@ -44,11 +44,11 @@ room_other words e = go (leb 6 words) e
     go false e = omega arith
 
 module _ (w : List ℕ) where
-  unfit_state : (WellFormed w → ⊥) → fits pipe_limit (progress_in w) ≡ false
+  pub unfit_state : (WellFormed w → ⊥) → fits pipe_limit (progress_in w) ≡ false
   unfit_state h = not_so (fits pipe_limit (progress_in w)) (λ f. h ((well_formed_exactly w).0 f))
 
   module _ (part : List ℕ) (words : ℕ) where
-    take_other : WellFormed w → take_answer (take_from w part) words ≡ answer 20 0 → ⊥
+    pub take_other : WellFormed w → take_answer (take_from w part) words ≡ answer 20 0 → ⊥
     take_other h e = go (take_from w part).notice refl e
       where
         f : fits pipe_limit (progress_in w) ≡ true
@@ -63,10 +63,6 @@ module _ (w : List ℕ) where
             refused_other n place (rw after at (take_fits pipe_limit (omega arith) (progress_in w) part f)) e
         go (over records) is e = room_other words e
         go malformed is e = subst (λ (notice : Notice). Stands notice (take_from w part)) is (take_stands pipe_limit (progress_in w) part f)
-
-    pub take_malformed_exactly : take_answer (take_from w part) words ≡ answer 20 0 ↔ (WellFormed w → ⊥)
-    take_malformed_exactly =
-        (λ e h. take_other h e, λ h. ap (λ (c : Call). take_answer c words) (take_unfit pipe_limit (progress_in w) part (unfit_state h)))
 
   end_other : WellFormed w → end_answer (end_from w) ≡ answer 20 0 → ⊥
   end_other h e =

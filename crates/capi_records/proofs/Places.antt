@@ -14,7 +14,7 @@ use Rattle.identifier.specs.Identity.{Identity, is_valid}
 use Rattle.primary.specs.Parts as primary
 use Rattle.primary.specs.Exactly.{block_names, version_names, delete_names}
 use Rattle.pack_list.specs.Lists as list
-use Rattle.pack_list.specs.Reading.{list_exactly}
+use Rattle.pack_list.proofs.ReadingLaws.{list_exactly}
 use Rattle.records.specs.Record.{block_tag, version_tag, version_delete_tag, block, version, version_delete, pack_list, Contents, of_block, of_version, of_version_delete, of_pack_list, contents, Record, primary_in, read_record, there, refused_at, alone, at_place, value_at, by_step, record_at}
 use Rattle.records.specs.Laws.{read_as}
 

@@ -5,3 +5,5 @@ pub mod Keys
 pub mod Ranges
 pub mod Arrays
 pub mod Entries
+pub mod LengthLaws
+pub mod ReadingLaws

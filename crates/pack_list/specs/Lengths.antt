@@ -1,9 +1,9 @@
 -- The deltas that count and the stored lengths of an entry's blocks, said without a computation.
 use Prim.Native.Nat.{ℕ, zero, suc, ◌+◌, ◌-◌, ◌≤◌, ◌<◌}
-use Rattle.std.specs.Prelude.{Bool, true, false, cond, ◌↔◌, ◌≡◌, ltb, length}
-use mathlib.Core.List.{List, [], ◌∷◌, ◌++◌, map, append-nil}
+use Rattle.std.specs.Prelude.{◌↔◌, ◌≡◌, length}
+use mathlib.Core.List.{List, [], ◌∷◌, ◌++◌, map}
 use Rattle.std.proofs.Math.Path.{refl, ap}
-use Rattle.std.proofs.Common.{sym, ◌∙◌, arith, ltb-true, ltb-false, length-append, take_all}
+use Rattle.std.proofs.Common.{sym, ◌∙◌, arith, length-append}
 use Rattle.std.proofs.Math.ListN.{get_or, take, get_or-map}
 use Rattle.msgpack.specs.Readers.{Int, plus}
 use Rattle.pack_list.specs.Lists.{range, Entry, sum}
@@ -12,20 +12,20 @@ use Rattle.pack_list.specs.Blocks.{rest_of, blocks, deltas_of, gain, loss, gains
 
 -- ---- sums
 
-sum_one_more : (ns : List ℕ) (k : ℕ) → sum (take (suc k) ns) ≡ sum (take k ns) + get_or ns k 0
+pub sum_one_more : (ns : List ℕ) (k : ℕ) → sum (take (suc k) ns) ≡ sum (take k ns) + get_or ns k 0
 unfolding sum
 sum_one_more [] zero = refl
 sum_one_more [] (suc k) = refl
 sum_one_more (n ∷ ns) zero = omega arith
 sum_one_more (n ∷ ns) (suc k) = let h = sum_one_more ns k in omega arith
 
-sum_front : (ns : List ℕ) (k : ℕ) → sum (take k ns) ≤ sum ns
+pub sum_front : (ns : List ℕ) (k : ℕ) → sum (take k ns) ≤ sum ns
 unfolding sum
 sum_front ns zero = omega arith
 sum_front [] (suc k) = omega arith
 sum_front (n ∷ ns) (suc k) = let h = sum_front ns k in omega arith
 
-sum_append : (ms ns : List ℕ) → sum (ms ++ ns) ≡ sum ms + sum ns
+pub sum_append : (ms ns : List ℕ) → sum (ms ++ ns) ≡ sum ms + sum ns
 unfolding sum
 sum_append [] ns = omega arith
 sum_append (m ∷ ms) ns = let h = sum_append ms ns in omega arith
@@ -66,22 +66,17 @@ losses_exactly e = total_deltas loss refl e.deltas (blocks e)
 
 -- ---- the stored lengths of an entry's blocks fill its range of the pack
 
-stored_from_lem : (left : ℕ) (ls : List ℕ) → stored_from left ls ≡ ls ++ rest_of (left - sum ls)
+pub stored_from_lem : (left : ℕ) (ls : List ℕ) → stored_from left ls ≡ ls ++ rest_of (left - sum ls)
 unfolding stored_from sum
 stored_from_lem left [] = let same : left - 0 ≡ left = omega arith in rw same
 stored_from_lem left (l ∷ ls) = let same : left - l - sum ls ≡ left - (l + sum ls) = omega arith in rw (stored_from_lem (left - l) ls, same)
 
-no_rest : (n : ℕ) → n ≡ 0 → rest_of n ≡ []
+pub no_rest : (n : ℕ) → n ≡ 0 → rest_of n ≡ []
 no_rest n e = rw e
 
 pub one_rest : (n : ℕ) → 0 < n → rest_of n ≡ n ∷ []
 one_rest zero h = absurd (omega arith)
 one_rest (suc n) h = refl
-
--- they are those listed, where these fill the range
-pub stored_listed : (e : Entry) → e.stored.len ≤ sum e.lengths → stored_lengths e ≡ e.lengths
-unfolding stored_lengths
-stored_listed e h = stored_from_lem e.stored.len e.lengths ∙ rw (no_rest (e.stored.len - sum e.lengths) (omega arith)) (append-nil e.lengths)
 
 -- and one more, where these leave a rest, which it has
 pub stored_rest : (e : Entry) → sum e.lengths < e.stored.len → stored_lengths e ≡ e.lengths ++ ((e.stored.len - sum e.lengths) ∷ [])
@@ -93,16 +88,6 @@ pub blocks_with_rest : (e : Entry) → blocks e ≡ length e.lengths + length (r
 unfolding blocks stored_lengths
 blocks_with_rest e = ap length (stored_from_lem e.stored.len e.lengths) ∙ length-append e.lengths (rest_of (e.stored.len - sum e.lengths))
 
-pub blocks_exactly : (e : Entry) → blocks e ≡ length e.lengths + cond (ltb (sum e.lengths) e.stored.len) 1 0
-unfolding blocks
-blocks_exactly e = by (ltb (sum e.lengths) e.stored.len) refl
-  where
-    by : (t : Bool) → ltb (sum e.lengths) e.stored.len ≡ t → length (stored_lengths e) ≡ length e.lengths + cond t 1 0
-    by true q =
-        rw (stored_rest e (ltb-true (sum e.lengths) e.stored.len q))
-        (length-append e.lengths ((e.stored.len - sum e.lengths) ∷ []) ∙ omega arith)
-    by false q = rw (stored_listed e (ltb-false (sum e.lengths) e.stored.len q)) (omega arith)
-
 -- without a block there is only an entry that lists nothing of a range of nothing
 pub no_block_in : (e : Entry) → blocks e ≡ 0 ↔ ((e.lengths ≡ []) × (e.stored.len ≡ 0))
 unfolding blocks stored_lengths stored_from
@@ -113,17 +98,6 @@ no_block_in e = (by e.lengths e.stored.len, λ h. rw (h.0, h.1))
     by [] (suc left) h = absurd (omega arith)
     by (l ∷ ls) left h = absurd (omega arith)
 
--- so they fill the range, where those listed do not exceed it
-pub blocks_fill : (e : Entry) → sum e.lengths ≤ e.stored.len → sum (stored_lengths e) ≡ e.stored.len
-unfolding sum
-blocks_fill e h = by (ltb (sum e.lengths) e.stored.len) refl
-  where
-    by : (t : Bool) → ltb (sum e.lengths) e.stored.len ≡ t → sum (stored_lengths e) ≡ e.stored.len
-    by true q =
-        let last = (e.stored.len - sum e.lengths) ∷ [] in
-        ap sum (stored_rest e (ltb-true (sum e.lengths) e.stored.len q)) ∙ sum_append e.lengths last ∙ omega arith
-    by false q = let le = ltb-false (sum e.lengths) e.stored.len q in ap sum (stored_listed e le) ∙ omega arith
-
 -- the k-th block's range of the pack, counted from 0
 abbrev pub stored_range : Entry → ℕ → Range
 stored_range e k = range (e.stored.start + sum (take k (stored_lengths e))) (get_or (stored_lengths e) k 0)
@@ -133,26 +107,6 @@ pub record EndToEnd (e : Entry) : Type 0 where
   pub next : (k : ℕ) → (stored_range e (suc k)).start ≡ (stored_range e k).start + (stored_range e k).len
   pub last : (k : ℕ) → suc k ≡ blocks e → (stored_range e k).start + (stored_range e k).len ≡ e.stored.start + e.stored.len
 
-pub end_to_end : (e : Entry) → sum e.lengths ≤ e.stored.len → EndToEnd e
-unfolding sum blocks
-end_to_end e h =
-    record {
-      first = omega arith;
-      next = λ k. let one = sum_one_more (stored_lengths e) k in omega arith;
-      last = λ k q.
-          let one = sum_one_more (stored_lengths e) k in
-          let all = ap sum (take_all (suc k) (stored_lengths e) (omega arith)) in
-          let fill = blocks_fill e h in
-          omega arith;
-    }
-
 pub record Inside (r whole : Range) : Type 0 where
   pub least : whole.start ≤ r.start
   pub most : r.start + r.len ≤ whole.start + whole.len
-
-pub stored_inside : (e : Entry) (k : ℕ) → sum e.lengths ≤ e.stored.len → Inside (stored_range e k) e.stored
-stored_inside e k h =
-    let one = sum_one_more (stored_lengths e) k in
-    let front = sum_front (stored_lengths e) (suc k) in
-    let fill = blocks_fill e h in
-    record { least = omega arith; most = omega arith }
