@@ -2,7 +2,7 @@
 use Prim.Native.Nat.{ℕ, zero, suc, ◌+◌, ◌-◌, ◌≤◌, ◌<◌}
 use mathlib.Core.Bool.{Bool, true, false, cond}
 use mathlib.Core.List.{List, [], ◌∷◌}
-use mathlib.Core.Option.{Option, none, some}
+use Rattle.std.specs.Prelude.{Option, None, Some, Ok, Err}
 use mathlib.Core.Path.{◌≡◌, refl, sym, ap, subst, ◌∙◌}
 use native.Mathlib.Numerals.{add-one}
 use native.Mathlib.Omega.{arith}
@@ -10,7 +10,7 @@ use borrow.Author.Tests.{ltb-true, ltb-false, lt-ltb, leb-true, le-leb, leb-fals
 use lib.Dec.{ltb, leb}
 use lib.ListN.{length, drop, length-drop}
 use Rattle.slices.specs.Logic.{absurd_numbers, both}
-use Rattle.refusals.specs.Answers.{granted, refused}
+use Rattle.refusals.specs.Answers.{granted, refused, or_else}
 use Rattle.msgpack.specs.Items.{depth_allowed, pass_over}
 use Rattle.msgpack.specs.PassingLaws.{bounded}
 use Rattle.msgpack.specs.Readers.{Int, plus, read_integer}
@@ -26,45 +26,40 @@ use Rattle.pack_list.specs.declared.Numbers.{Numbers}
 use Rattle.pack_list.specs.declared.Range.{Range}
 use Rattle.pack_list.specs.declared.Entry as placed
 use Rattle.pack_list.specs.declared.Held.{Held}
-use Rattle.pack_list.specs.declared.Holder.{Holder}
 use Rattle.pack_list.specs.declared.PackList as listed
-use Rattle.pack_list.specs.declared.ListRead.{ListRead}
-use Rattle.pack_list.specs.declared.ListRead.TheVariants as list-answer
 use Rattle.block_of_byte.specs.declared.Block.{Block}
-use Rattle.block_of_byte.specs.declared.BlockFound.{BlockFound}
-use Rattle.block_of_byte.specs.declared.BlockFound.TheVariants as block-answer
 use Rattle.pack_list.specs.declared.Fault.{Fault}
 use Rattle.block_of_byte.specs.declared.Found.TheVariants as found-answer
-use Rattle.pack_list.specs.Answers.{items_in, entry_of, or_else, number_of, held_of, holder_in, HeldIs, ReadFor, EntryStands}
-use Rattle.block_of_byte.specs.Answers.{block_at, block_of, noted_of, moved_by, at_most, Offset, found_of, FoundStands, find_in}
+use Rattle.pack_list.specs.Answers.{items_in, entry_of, number_of, held_of, holder_in, HeldIs, ListRead, ReadFor, EntryStands}
+use Rattle.block_of_byte.specs.Answers.{block_at, noted_of, moved_by, at_most, Offset, found_of, FoundStands, find_in}
 use Rattle.pack_list.specs.Walks.{none_left, FirstRead, first_read, items_count, each_count, entry_is}
 
 -- ---- the lengths and deltas that are left
 
-at_most_is : (left : ℕ) (o : Option ℕ) (n : ℕ) → at_most left o ≡ some n → (o ≡ some n) × (n ≤ left)
-at_most_is left none n e = absurd_numbers (cc)
-at_most_is left (some m) n e = go (leb m left) refl e
+at_most_is : (left : ℕ) (o : Option ℕ) (n : ℕ) → at_most left o ≡ Some n → (o ≡ Some n) × (n ≤ left)
+at_most_is left None n e = absurd_numbers (cc)
+at_most_is left (Some m) n e = go (leb m left) refl e
   where
-    go : (t : Bool) → leb m left ≡ t → cond t (some m) none ≡ some n → (some m ≡ some n) × (n ≤ left)
+    go : (t : Bool) → leb m left ≡ t → cond t (Some m) None ≡ Some n → (Some m ≡ Some n) × (n ≤ left)
     go true l f = let same : m ≡ n = cc in (f, omega (arith, leb-true m left l))
     go false l f = absurd_numbers (cc)
 
 -- the length of the k-th block
 abbrev pub length_read : List ℕ → Numbers → ℕ → ℕ → Option ℕ
-length_read s lengths k at = cond (leb lengths.count k) none (read_natural (drop at s))
+length_read s lengths k at = cond (leb lengths.count k) None (read_natural (drop at s))
 
 -- the delta of the k-th block
 abbrev pub delta_read : List ℕ → Numbers → ℕ → ℕ → Option Int
-delta_read s deltas k delta = cond (leb deltas.count k) (some (plus 0)) (read_integer (drop delta s))
+delta_read s deltas k delta = cond (leb deltas.count k) (Some (plus 0)) (read_integer (drop delta s))
 
 abbrev pub delta_after : List ℕ → Numbers → ℕ → ℕ → ℕ
 delta_after s deltas k delta = cond (leb deltas.count k) delta (delta + size_of (pass_over (drop delta s)))
 
 record FirstDelta (s : List ℕ) (deltas : Numbers) (k delta : ℕ) (ds : List Int) : Type 0 where
-  is : delta_read s deltas k delta ≡ some (first_delta ds)
-  others : each_of read_integer (items_from (deltas.count - (k + 1)) (drop (delta_after s deltas k delta) s)) ≡ some (other_deltas ds)
+  is : delta_read s deltas k delta ≡ Some (first_delta ds)
+  others : each_of read_integer (items_from (deltas.count - (k + 1)) (drop (delta_after s deltas k delta) s)) ≡ Some (other_deltas ds)
 
-first_delta_lem : (s : List ℕ) (deltas : Numbers) (k delta : ℕ) (ds : List Int) → each_of read_integer (items_from (deltas.count - k) (drop delta s)) ≡ some ds
+first_delta_lem : (s : List ℕ) (deltas : Numbers) (k delta : ℕ) (ds : List Int) → each_of read_integer (items_from (deltas.count - k) (drop delta s)) ≡ Some ds
     → FirstDelta s deltas k delta ds
 first_delta_lem s deltas k delta ds e = go (leb deltas.count k) refl
   where
@@ -84,20 +79,20 @@ first_delta_lem s deltas k delta ds e = go (leb deltas.count k) refl
 -- ---- one block more, or none
 
 module _ (stride source m : ℕ) (ds : List Int) where
-  sources_stop : at_most source (moved stride (first_delta ds)) ≡ none → sources_from stride source (suc m) ds ≡ none
+  sources_stop : at_most source (moved stride (first_delta ds)) ≡ None → sources_from stride source (suc m) ds ≡ None
   unfolding sources_from
   sources_stop e = go (moved stride (first_delta ds)) e
     where
-      go : (o : Option ℕ) → at_most source o ≡ none
-          → (if_there o λ n. cond (leb n source) (over (λ ns. n ∷ ns) (sources_from stride (source - n) m (other_deltas ds))) none) ≡ none
-      go none f = refl
-      go (some n) f = tested (leb n source) f
+      go : (o : Option ℕ) → at_most source o ≡ None
+          → (if_there o λ n. cond (leb n source) (over (λ ns. n ∷ ns) (sources_from stride (source - n) m (other_deltas ds))) None) ≡ None
+      go None f = refl
+      go (Some n) f = tested (leb n source) f
         where
-          tested : (t : Bool) → cond t (some n) none ≡ none → cond t (over (λ ns. n ∷ ns) (sources_from stride (source - n) m (other_deltas ds))) none ≡ none
+          tested : (t : Bool) → cond t (Some n) None ≡ None → cond t (over (λ ns. n ∷ ns) (sources_from stride (source - n) m (other_deltas ds))) None ≡ None
           tested true g = absurd_numbers (cc)
           tested false g = refl
 
-  sources_on : (n : ℕ) → at_most source (moved stride (first_delta ds)) ≡ some n
+  sources_on : (n : ℕ) → at_most source (moved stride (first_delta ds)) ≡ Some n
       → sources_from stride source (suc m) ds ≡ over (λ ns. n ∷ ns) (sources_from stride (source - n) m (other_deltas ds))
   unfolding sources_from
   sources_on n e = let o = at_most_is source (moved stride (first_delta ds)) n e in rw (o.0, le-leb n source o.1)
@@ -128,10 +123,10 @@ unfolding stored_from sum
 last_stored zero [] h one = absurd (omega arith)
 last_stored (suc left) [] h one = refl
 last_stored left (l ∷ ls) h one =
-    let none : length (stored_from (left - l) ls) ≡ 0 = omega arith in
-    let rest = none_more (left - l) ls none in
+    let nothing : length (stored_from (left - l) ls) ≡ 0 = omega arith in
+    let rest = none_more (left - l) ls nothing in
     let same : l ≡ left = omega arith in
-    rw (no_lengths (left - l) ls none, same)
+    rw (no_lengths (left - l) ls nothing, same)
 
 -- the block of a number, where no block before it holds the byte
 module _ (number start behind stored l n : ℕ) (ls : List ℕ) where
@@ -142,20 +137,20 @@ module _ (number start behind stored l n : ℕ) (ls : List ℕ) where
       → (if_there (over (λ ns. n ∷ ns) o) λ ns. or_else found (block_from number start behind ns (stored_from stored (l ∷ ls))))
       ≡ (if_there o λ ns. or_else (noted_of found (ltb behind n) this) (block_from (number + 1) (start + l) (behind - n) ns (stored_from (stored - l) ls)))
   unfolding block_from stored_from
-  held_on none found = refl
-  held_on (some ns) (some b) = refl
-  held_on (some ns) none = rw (add-one number) (go (ltb behind n))
+  held_on None found = refl
+  held_on (Some ns) (Some b) = refl
+  held_on (Some ns) None = rw (add-one number) (go (ltb behind n))
     where
       go : (t : Bool)
-          → cond t (some this) (block_from (suc number) (start + l) (behind - n) ns (stored_from (stored - l) ls))
-          ≡ or_else (cond t (some this) none) (block_from (suc number) (start + l) (behind - n) ns (stored_from (stored - l) ls))
+          → cond t (Some this) (block_from (suc number) (start + l) (behind - n) ns (stored_from (stored - l) ls))
+          ≡ or_else (cond t (Some this) None) (block_from (suc number) (start + l) (behind - n) ns (stored_from (stored - l) ls))
       go true = refl
       go false = refl
 
-not_noted : (found : Option Block) (t : Bool) (b : Block) → noted_of found t b ≡ none → (found ≡ none) × (t ≡ false)
-not_noted (some x) t b e = absurd_numbers (cc)
-not_noted none true b e = absurd_numbers (cc)
-not_noted none false b e = (refl, refl)
+not_noted : (found : Option Block) (t : Bool) (b : Block) → noted_of found t b ≡ None → (found ≡ None) × (t ≡ false)
+not_noted (Some x) t b e = absurd_numbers (cc)
+not_noted None true b e = absurd_numbers (cc)
+not_noted None false b e = (refl, refl)
 
 -- ---- the walk
 
@@ -170,20 +165,20 @@ module _ (s : List ℕ) (stride offset : ℕ) (lengths deltas : Numbers) (last :
 
   module _ (start₀ stored₀ source₀ : ℕ) where
     -- before the k-th block; the byte is in none before it, or in the one found
-    pub record WalkedTo (start stored source behind at delta k : ℕ) (found : BlockFound) : Type 0 where
+    pub record WalkedTo (start stored source behind at delta k : ℕ) (found : Option Block) : Type 0 where
       pub ls : List ℕ
       pub ds : List Int
-      pub lengths_left : each_of read_natural (items_from (lengths.count - k) (drop at s)) ≡ some ls
-      pub deltas_left : each_of read_integer (items_from (deltas.count - k) (drop delta s)) ≡ some ds
+      pub lengths_left : each_of read_natural (items_from (lengths.count - k) (drop at s)) ≡ Some ls
+      pub deltas_left : each_of read_integer (items_from (deltas.count - k) (drop delta s)) ≡ Some ds
       pub most : k ≤ last
       pub blocks_left : length (stored_from stored ls) + k ≡ suc last
       pub fit : sum ls ≤ stored
       pub end : start + stored ≤ greatest
-      pub below : block_of found ≡ none → behind < source
+      pub below : found ≡ None → behind < source
       pub answer : block_by start₀ stored₀ source₀
-          ≡ if_there (sources_from stride source (last - k) ds) λ ns. or_else (block_of found) (block_from k start behind ns (stored_from stored ls))
+          ≡ if_there (sources_from stride source (last - k) ds) λ ns. or_else found (block_from k start behind ns (stored_from stored ls))
 
-    module _ (start stored source behind at delta k : ℕ) (found : BlockFound) (w : WalkedTo start stored source behind at delta k found) where
+    module _ (start stored source behind at delta k : ℕ) (found : Option Block) (w : WalkedTo start stored source behind at delta k found) where
       module _ (h : k < last) where
         some_length : 0 < lengths.count - k
         some_length =
@@ -200,10 +195,10 @@ module _ (s : List ℕ) (stride offset : ℕ) (lengths deltas : Numbers) (last :
         one_more = omega arith
 
         -- there is a length
-        pub length_there : read_natural (drop at s) ≡ none → ⊥
+        pub length_there : read_natural (drop at s) ≡ None → ⊥
         length_there e = let f = first_length.reads in absurd_numbers (cc)
 
-        pub length_fits : (len : ℕ) → read_natural (drop at s) ≡ some len → len ≤ stored
+        pub length_fits : (len : ℕ) → read_natural (drop at s) ≡ Some len → len ≤ stored
         unfolding sum
         length_fits len e =
             let f = first_length in
@@ -211,17 +206,17 @@ module _ (s : List ℕ) (stride offset : ℕ) (lengths deltas : Numbers) (last :
             let fit = rw f.is at w.fit in
             omega arith
 
-        pub source_fits : (n : ℕ) → some n ≡ at_most source (moved_by stride (delta_read s deltas k delta)) → n ≤ source
+        pub source_fits : (n : ℕ) → Some n ≡ at_most source (moved_by stride (delta_read s deltas k delta)) → n ≤ source
         source_fits n e = (at_most_is source (moved_by stride (delta_read s deltas k delta)) n (sym e)).1
 
         -- a block that would be below 0
-        pub stops : none ≡ at_most source (moved_by stride (delta_read s deltas k delta)) → none ≡ block_by start₀ stored₀ source₀
+        pub stops : None ≡ at_most source (moved_by stride (delta_read s deltas k delta)) → None ≡ block_by start₀ stored₀ source₀
         stops q =
             let d = first_delta_lem s deltas k delta w.ds w.deltas_left in
             sym (w.answer ∙ rw (one_more, sources_stop stride source (last - (k + 1)) w.ds (rw d.is at (sym q))))
 
-        pub goes_on : (len n : ℕ) → read_natural (drop at s) ≡ some len → some n ≡ at_most source (moved_by stride (delta_read s deltas k delta))
-            → (noted : BlockFound) → block_of noted ≡ noted_of (block_of found) (ltb behind n) (record { number = k; stored = range start len })
+        pub goes_on : (len n : ℕ) → read_natural (drop at s) ≡ Some len → Some n ≡ at_most source (moved_by stride (delta_read s deltas k delta))
+            → (noted : Option Block) → noted ≡ noted_of found (ltb behind n) (record { number = k; stored = range start len })
             → (next following : ℕ) → next ≡ at + size_of (pass_over (drop at s)) → following ≡ delta_after s deltas k delta
             → WalkedTo (start + len) (stored - len) (source - n) (behind - n) next following (k + 1) noted
         unfolding sum stored_from
@@ -232,7 +227,7 @@ module _ (s : List ℕ) (stride offset : ℕ) (lengths deltas : Numbers) (last :
             let cut : w.ls ≡ len ∷ f.others = f.is ∙ ap (λ x. x ∷ f.others) same in
             let fit = rw cut at w.fit in
             let all = rw cut at w.blocks_left in
-            let moves : at_most source (moved stride (first_delta w.ds)) ≡ some n = rw d.is at (sym q) in
+            let moves : at_most source (moved stride (first_delta w.ds)) ≡ Some n = rw d.is at (sym q) in
             let m = at_most_is source (moved stride (first_delta w.ds)) n moves in
             let left : lengths.count - k - 1 ≡ lengths.count - (k + 1) = omega arith in
             let end = w.end in
@@ -246,34 +241,36 @@ module _ (s : List ℕ) (stride offset : ℕ) (lengths deltas : Numbers) (last :
               fit = omega arith;
               end = omega arith;
               below = λ z.
-                  let p = not_noted (block_of found) (ltb behind n) _ (sym r ∙ z) in
+                  let p = not_noted found (ltb behind n) _ (sym r ∙ z) in
                   omega (arith, w.below p.0, ltb-false behind n p.1);
               answer = w.answer
                   ∙ ap (λ x. if_there (sources_from stride source (last - k) w.ds) λ ns.
-                  or_else (block_of found) (block_from k start behind ns (stored_from stored x))) cut
+                  or_else found (block_from k start behind ns (stored_from stored x))) cut
                   ∙ rw (r, one_more, sources_on stride source (last - (k + 1)) w.ds n moves)
-                  (held_on k start behind stored len n f.others (sources_from stride (source - n) (last - (k + 1)) (other_deltas w.ds)) (block_of found));
+                  (held_on k start behind stored len n f.others (sources_from stride (source - n) (last - (k + 1)) (other_deltas w.ds)) found);
             }
 
-      pub ends : last ≤ k → (noted : BlockFound) → block_of noted ≡ noted_of (block_of found) true (record { number = k; stored = range start stored })
-          → block_of noted ≡ block_by start₀ stored₀ source₀
+      pub ends : last ≤ k → (noted : Option Block) → noted ≡ noted_of found true (record { number = last; stored = range start stored })
+          → noted ≡ block_by start₀ stored₀ source₀
       unfolding sources_from block_from
       ends h noted r =
           let most = w.most in
           let all = w.blocks_left in
           let none_left : last - k ≡ 0 = omega arith in
-          r ∙ go (block_of found) w.below ∙ sym (w.answer ∙ rw (none_left, last_stored stored w.ls w.fit (omega arith)))
+          let same : k ≡ last = omega arith in
+          let here : noted ≡ noted_of found true (record { number = k; stored = range start stored }) = rw same r in
+          here ∙ go found w.below ∙ sym (w.answer ∙ rw (none_left, last_stored stored w.ls w.fit (omega arith)))
         where
-          go : (o : Option Block) → (o ≡ none → behind < source)
+          go : (o : Option Block) → (o ≡ None → behind < source)
               → noted_of o true (record { number = k; stored = range start stored })
-              ≡ or_else o (cond (ltb behind source) (some (record { number = k; stored = range start stored })) none)
-          go (some x) l = refl
-          go none l = rw (lt-ltb behind source (l refl))
+              ≡ or_else o (cond (ltb behind source) (Some (record { number = k; stored = range start stored })) None)
+          go (Some x) l = refl
+          go None l = rw (lt-ltb behind source (l refl))
 
 -- before the first block
 module _ (s : List ℕ) (e : placed.Entry) (n stride offset : ℕ) (o : Offset s e n offset) where
   pub walk_starts : WalkedTo s stride offset e.lengths e.deltas (n - 1) e.stored.start e.stored.len e.source.len
-      e.stored.start e.stored.len e.source.len offset e.lengths.first e.deltas.first 0 block-answer.None
+      e.stored.start e.stored.len e.source.len offset e.lengths.first e.deltas.first 0 None
   unfolding blocks stored_lengths
   walk_starts =
       let i = entry_is s e o.entry o.is in
@@ -333,7 +330,7 @@ module _ (s : List ℕ) (byte : ℕ) (h : Held) (i : HeldIs s byte h) where
 
   -- without a block, or a sum of its deltas, an entry has no block that is told
   pub not_counted : (stride : ℕ) → h.counted ≡ false
-      → found_of s (found-answer.Entry h.number h.entry) ≡ granted (found_in stride byte (held_of s h))
+      → found_of s (Ok (found-answer.Entry h.number h.entry)) ≡ granted (found_in stride byte (held_of s h))
   unfolding block_in sources
   not_counted stride c = rw (i.here.is, sym i.here.counted ∙ c)
 
@@ -361,42 +358,42 @@ module _ (s : List ℕ) (byte : ℕ) (h : Held) (i : HeldIs s byte h) where
           let from : byte - h.entry.source.start ≡ byte - held.source.start = ap (λ (x : Range). byte - x.start) same_source in
           told ∙ ap (λ (k : ℕ). if_there (entry_of s h.entry) (block_at stride k)) from ∙ rw (i.here.is, is_counted_lem)
 
-      pub block_here : (b : Block) → r ≡ some b → found_of s (found-answer.Block h.number h.entry b) ≡ granted (found_in stride byte (held_of s h))
+      pub block_here : (b : Block) → r ≡ Some b → found_of s (Ok (found-answer.Block h.number h.entry b)) ≡ granted (found_in stride byte (held_of s h))
       block_here b q = rw (i.here.is, ← block_told, q)
 
-      pub no_block_here : r ≡ none → found_of s (found-answer.Entry h.number h.entry) ≡ granted (found_in stride byte (held_of s h))
+      pub no_block_here : r ≡ None → found_of s (Ok (found-answer.Entry h.number h.entry)) ≡ granted (found_in stride byte (held_of s h))
       no_block_here q = rw (i.here.is, ← block_told, q)
 
 -- ---- where the entry found stands
 
 module _ (s : List ℕ) where
-  pub entry_found : (number : ℕ) (e : placed.Entry) → EntryStands s number e → FoundStands s (found-answer.Entry number e)
+  pub entry_found : (number : ℕ) (e : placed.Entry) → EntryStands s number e → FoundStands s (Ok (found-answer.Entry number e))
   entry_found number e h =
       record {
         entry = λ k x q. let same : number ≡ k = cc in let is : e ≡ x = cc in rw (same, is) at h;
         block = λ k x b q. absurd_numbers (cc);
       }
 
-  pub block_found : (number : ℕ) (e : placed.Entry) (b : Block) → EntryStands s number e → FoundStands s (found-answer.Block number e b)
+  pub block_found : (number : ℕ) (e : placed.Entry) (b : Block) → EntryStands s number e → FoundStands s (Ok (found-answer.Block number e b))
   block_found number e b h =
       record {
         entry = λ k x q. absurd_numbers (cc);
         block = λ k x c q. let same : number ≡ k = cc in let is : e ≡ x = cc in rw (same, is) at h;
       }
 
-  pub nowhere_found : FoundStands s found-answer.Nowhere
+  pub nowhere_found : FoundStands s (Ok found-answer.Nowhere)
   nowhere_found = record { entry = λ k x q. absurd_numbers (cc); block = λ k x c q. absurd_numbers (cc) }
 
-  pub refused_found : (f : Fault) → FoundStands s (found-answer.Refused f)
+  pub refused_found : (f : Fault) → FoundStands s (Err f)
   refused_found f = record { entry = λ k x q. absurd_numbers (cc); block = λ k x c q. absurd_numbers (cc) }
 
 -- ---- what is found, by what was read for the byte
 
 module _ (s : List ℕ) (byte : ℕ) (r : ListRead) (read : ReadFor s byte r) where
-  pub find_list : (l : listed.PackList) (n : ℕ) (h : Holder) → r ≡ list-answer.List l n h → granted (found_in n byte (holder_in s h)) ≡ find_in s byte
+  pub find_list : (l : listed.PackList) (n : ℕ) (h : Option Held) → r ≡ Ok (l, n, h) → granted (found_in n byte (holder_in s h)) ≡ find_in s byte
   unfolding find_in find
   find_list l n h e = rw (← read.reads, e, read.stride l n h e, read.held l n h e)
 
-  pub find_refused : (f : Fault) → r ≡ list-answer.Fault f → refused (number_of f) ≡ find_in s byte
+  pub find_refused : (f : Fault) → r ≡ Err f → refused (number_of f) ≡ find_in s byte
   unfolding find_in
   find_refused f e = rw (← read.reads, e)

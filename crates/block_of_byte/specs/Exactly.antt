@@ -4,7 +4,7 @@ use Rattle.std.specs.Prelude.{Bool, true, false, cond, ◌↔◌, ◌≡◌, ltb
 use mathlib.Core.List.Memᴰ
 use mathlib.Core.List.{List, [], ◌∷◌, ◌++◌, append-nil, Memᴰ}
 use Rattle.std.proofs.Common.{⊎_elim, sym, ◌∙◌, not-suc-le-zero, ltb-true, ltb-false, leb-true, lt-ltb, le-ltb, le-leb}
-use Rattle.std.proofs.Math.Option.{Option, none, some}
+use Rattle.std.specs.Prelude.{Option, None, Some}
 use Rattle.std.proofs.Math.Path.{refl, ap, subst}
 use native.Mathlib.Omega.{arith}
 use Rattle.std.proofs.Math.ListN.{length}
@@ -43,16 +43,16 @@ record Somewhere (number start offset : ℕ) (ns ls : List ℕ) (b : Block) : Ty
   index : ℕ
   is : IsAt number start offset ns ls index b
 
-block_is : (number start offset : ℕ) (ns ls : List ℕ) (b : Block) → block_from number start offset ns ls ≡ some b → Somewhere number start offset ns ls b
+block_is : (number start offset : ℕ) (ns ls : List ℕ) (b : Block) → block_from number start offset ns ls ≡ Some b → Somewhere number start offset ns ls b
 unfolding block_from sum
 block_is number start offset [] ls b e = absurd_numbers (cc)
 block_is number start offset (n ∷ ns) [] b e = absurd_numbers (cc)
 block_is number start offset (n ∷ ns) (l ∷ ls) b e =
     go (λ f. block_is (suc number) (start + l) (offset - n) ns ls b f) (ltb offset n) refl e
   where
-    go : (block_from (suc number) (start + l) (offset - n) ns ls ≡ some b → Somewhere (suc number) (start + l) (offset - n) ns ls b)
+    go : (block_from (suc number) (start + l) (offset - n) ns ls ≡ Some b → Somewhere (suc number) (start + l) (offset - n) ns ls b)
         → (t : Bool) → ltb offset n ≡ t
-        → cond t (some (record { number = number; stored = range start l })) (block_from (suc number) (start + l) (offset - n) ns ls) ≡ some b
+        → cond t (Some (record { number = number; stored = range start l })) (block_from (suc number) (start + l) (offset - n) ns ls) ≡ Some b
         → Somewhere number start offset (n ∷ ns) (l ∷ ls) b
     go rest true h f =
         let same : record { number = number; stored = range start l } ≡ b = cc in
@@ -78,7 +78,7 @@ block_is number start offset (n ∷ ns) (l ∷ ls) b e =
         }
 
 is_block : (number start offset : ℕ) (ns ls : List ℕ) (k : ℕ) (b : Block) → length ns ≡ length ls → IsAt number start offset ns ls k b
-    → block_from number start offset ns ls ≡ some b
+    → block_from number start offset ns ls ≡ Some b
 unfolding block_from sum
 is_block number start offset [] ls k b h i = absurd (not-suc-le-zero i.within)
 is_block number start offset (n ∷ ns) [] k b h i = absurd (omega arith)
@@ -101,15 +101,15 @@ is_block number start offset (n ∷ ns) (l ∷ ls) (suc k) b h i =
     }))
 
 -- an offset below all lengths together is in a block
-block_there : (number start offset : ℕ) (ns ls : List ℕ) → length ns ≡ length ls → offset < sum ns → block_from number start offset ns ls ≡ none → ⊥
+block_there : (number start offset : ℕ) (ns ls : List ℕ) → length ns ≡ length ls → offset < sum ns → block_from number start offset ns ls ≡ None → ⊥
 unfolding block_from sum
 block_there number start offset [] ls h o e = omega arith
 block_there number start offset (n ∷ ns) [] h o e = omega arith
 block_there number start offset (n ∷ ns) (l ∷ ls) h o e =
     go (λ p q. block_there (suc number) (start + l) (offset - n) ns ls (omega arith) p q) (ltb offset n) refl e
   where
-    go : (offset - n < sum ns → block_from (suc number) (start + l) (offset - n) ns ls ≡ none → ⊥) → (t : Bool) → ltb offset n ≡ t
-        → cond t (some (record { number = number; stored = range start l })) (block_from (suc number) (start + l) (offset - n) ns ls) ≡ none → ⊥
+    go : (offset - n < sum ns → block_from (suc number) (start + l) (offset - n) ns ls ≡ None → ⊥) → (t : Bool) → ltb offset n ≡ t
+        → cond t (Some (record { number = number; stored = range start l })) (block_from (suc number) (start + l) (offset - n) ns ls) ≡ None → ⊥
     go rest true q f = absurd_numbers (cc)
     go rest false q f = rest (let ge = ltb-false offset n q in omega arith) f
 
@@ -132,7 +132,7 @@ module _ (s : ℕ) (e : Entry) (byte : ℕ) (here : Holds e byte) where
   unfolding blocks
   as_many ns c i = let n = i.count in let some_block = c.some_block in omega arith
 
-  block_in_lem : (b : Block) → block_in s e byte ≡ some b → InBlock s e byte b
+  block_in_lem : (b : Block) → block_in s e byte ≡ Some b → InBlock s e byte b
   unfolding block_in blocks
   block_in_lem b h =
       let t = there (sources s e) _ b h in
@@ -155,7 +155,7 @@ module _ (s : ℕ) (e : Entry) (byte : ℕ) (here : Holds e byte) where
         };
       }
 
-  in_block_lem : (b : Block) → InBlock s e byte b → block_in s e byte ≡ some b
+  in_block_lem : (b : Block) → InBlock s e byte b → block_in s e byte ≡ Some b
   unfolding block_in blocks
   in_block_lem b i =
       let ns = i.lengths in
@@ -172,16 +172,16 @@ module _ (s : ℕ) (e : Entry) (byte : ℕ) (here : Holds e byte) where
         long = ap (λ (r : Range). r.len) k.stored;
       }))
 
-  pub in_block_exactly : (b : Block) → block_in s e byte ≡ some b ↔ InBlock s e byte b
+  pub in_block_exactly : (b : Block) → block_in s e byte ≡ Some b ↔ InBlock s e byte b
   in_block_exactly b = (block_in_lem b, in_block_lem b)
 
-  pub no_block_exactly : block_in s e byte ≡ none ↔ NoSources s e
+  pub no_block_exactly : block_in s e byte ≡ None ↔ NoSources s e
   unfolding block_in
   no_block_exactly = (λ h. (no_sources_exactly s e).0 (go (sources s e) refl h), λ h. rw ((no_sources_exactly s e).1 h))
     where
-      go : (o : Option (List ℕ)) → sources s e ≡ o → (if_there o λ ns. block_from 0 e.stored.start offset ns (stored_lengths e)) ≡ none → o ≡ none
-      go none f h = refl
-      go (some ns) f h =
+      go : (o : Option (List ℕ)) → sources s e ≡ o → (if_there o λ ns. block_from 0 e.stored.start offset ns (stored_lengths e)) ≡ None → o ≡ None
+      go None f h = refl
+      go (Some ns) f h =
           let c = (sources_exactly s e ns).0 f in
           let i = c.1 in
           let fill = i.fill in
@@ -257,11 +257,11 @@ module _ (byte : ℕ) where
       let same : suc number + length front ≡ number + suc (length front) = omega arith in
       rw n (holder_behind (suc number) front rest (λ f m k. h f (Memᴰ.tail m) k) ∙ ap (λ k. holder_from byte k rest) same)
 
-  no_holder : (es : List Entry) → NoneHolds es byte → holder_from byte 0 es ≡ none
+  no_holder : (es : List Entry) → NoneHolds es byte → holder_from byte 0 es ≡ None
   unfolding holder_from
   no_holder es h = ap (holder_from byte 0) (sym (append-nil es)) ∙ holder_behind 0 es [] h
 
-  first_holder : (es : List Entry) (k : ℕ) (e : Entry) → IsFirst es byte k e → holder_from byte 0 es ≡ some (k, e)
+  first_holder : (es : List Entry) (k : ℕ) (e : Entry) → IsFirst es byte k e → holder_from byte 0 es ≡ Some (k, e)
   unfolding holder_from
   first_holder es k e i =
       let same : 0 + length i.front ≡ k = let p = i.place in omega arith in
@@ -276,8 +276,8 @@ module _ (l : PackList) (byte : ℕ) where
   find_is = go (search_all l.entries byte)
     where
       by : (k : ℕ) (e : Entry) → IsFirst l.entries byte k e → (o : Option Block) → block_in s e byte ≡ o → IsFound l byte (found_by k e o)
-      by k e i (some b) h = (i, (in_block_exactly s e byte i.here b).0 h)
-      by k e i none h = (i, (no_block_exactly s e byte i.here).0 h)
+      by k e i (Some b) h = (i, (in_block_exactly s e byte i.here b).0 h)
+      by k e i None h = (i, (no_block_exactly s e byte i.here).0 h)
 
       go : Search l.entries byte → IsFound l byte (found_in s byte (holder_from byte 0 l.entries))
       go (none_found n) = subst (IsFound l byte) (sym (ap (found_in s byte) (no_holder byte l.entries n))) n

@@ -1,6 +1,6 @@
 -- Blocks found in lists of entries; antt computes every answer.
 use Rattle.std.specs.Prelude.{ℕ, List, [], ◌∷◌, ◌++◌, map, ◌≡◌, refl}
-use Rattle.std.proofs.Math.Option.{Option, none, some}
+use Rattle.std.specs.Prelude.{Option, None, Some}
 use Rattle.msgpack.specs.Readers.{plus, minus}
 use Rattle.identifier.specs.Identity.{identity}
 use Rattle.pack_list.specs.Lists.{range, Entry, PackList, sum, greatest}
@@ -22,39 +22,39 @@ lengths front last stride sources = record { front = front; last = last; stride 
 
 unfoldable pub strides : List Lengths
 strides =
-    lengths [] printed 12 (some (12 ∷ 12 ∷ 12 ∷ []))
-    ∷ lengths [] all_listed 12 (some (12 ∷ 12 ∷ 12 ∷ []))
-    ∷ lengths [] twenty 10 (some (10 ∷ 10 ∷ []))
-    ∷ lengths [] (in_three 0 []) 9 (some (9 ∷ 9 ∷ 7 ∷ []))
-    ∷ lengths (twenty ∷ []) (in_three 20 []) 10 (some (10 ∷ 10 ∷ 5 ∷ []))
-    ∷ lengths (in_three 20 [] ∷ []) twenty 10 (some (10 ∷ 10 ∷ []))
+    lengths [] printed 12 (Some (12 ∷ 12 ∷ 12 ∷ []))
+    ∷ lengths [] all_listed 12 (Some (12 ∷ 12 ∷ 12 ∷ []))
+    ∷ lengths [] twenty 10 (Some (10 ∷ 10 ∷ []))
+    ∷ lengths [] (in_three 0 []) 9 (Some (9 ∷ 9 ∷ 7 ∷ []))
+    ∷ lengths (twenty ∷ []) (in_three 20 []) 10 (Some (10 ∷ 10 ∷ 5 ∷ []))
+    ∷ lengths (in_three 20 [] ∷ []) twenty 10 (Some (10 ∷ 10 ∷ []))
     -- deltas: added, subtracted, of the last block, past it
-    ∷ lengths [] (in_three 0 (plus 4 ∷ [])) 7 (some (11 ∷ 7 ∷ 7 ∷ []))
-    ∷ lengths [] (in_three 0 (plus 0 ∷ minus 3 ∷ [])) 10 (some (10 ∷ 7 ∷ 8 ∷ []))
-    ∷ lengths [] (in_three 0 (plus 0 ∷ plus 0 ∷ minus 4 ∷ [])) 10 (some (10 ∷ 10 ∷ 5 ∷ []))
-    ∷ lengths [] (in_three 0 (plus 0 ∷ plus 0 ∷ plus 0 ∷ minus 100 ∷ plus greatest ∷ [])) 9 (some (9 ∷ 9 ∷ 7 ∷ []))
+    ∷ lengths [] (in_three 0 (plus 4 ∷ [])) 7 (Some (11 ∷ 7 ∷ 7 ∷ []))
+    ∷ lengths [] (in_three 0 (plus 0 ∷ minus 3 ∷ [])) 10 (Some (10 ∷ 7 ∷ 8 ∷ []))
+    ∷ lengths [] (in_three 0 (plus 0 ∷ plus 0 ∷ minus 4 ∷ [])) 10 (Some (10 ∷ 10 ∷ 5 ∷ []))
+    ∷ lengths [] (in_three 0 (plus 0 ∷ plus 0 ∷ plus 0 ∷ minus 100 ∷ plus greatest ∷ [])) 9 (Some (9 ∷ 9 ∷ 7 ∷ []))
     -- all blocks listed, and a rest of one byte: the second delta is of the last block, or the third
-    ∷ lengths [] (stored_in 14 []) 13 (some (13 ∷ 12 ∷ []))
-    ∷ lengths [] (stored_in 15 []) 9 (some (9 ∷ 9 ∷ 7 ∷ []))
-    ∷ lengths [] (stored_in 14 (plus 0 ∷ plus 3 ∷ minus 8 ∷ [])) 11 (some (11 ∷ 14 ∷ []))
-    ∷ lengths [] (stored_in 15 (plus 0 ∷ plus 3 ∷ minus 8 ∷ [])) 10 (some (10 ∷ 13 ∷ 2 ∷ []))
+    ∷ lengths [] (stored_in 14 []) 13 (Some (13 ∷ 12 ∷ []))
+    ∷ lengths [] (stored_in 15 []) 9 (Some (9 ∷ 9 ∷ 7 ∷ []))
+    ∷ lengths [] (stored_in 14 (plus 0 ∷ plus 3 ∷ minus 8 ∷ [])) 11 (Some (11 ∷ 14 ∷ []))
+    ∷ lengths [] (stored_in 15 (plus 0 ∷ plus 3 ∷ minus 8 ∷ [])) 10 (Some (10 ∷ 13 ∷ 2 ∷ []))
     -- without a block an entry takes no part, and has no lengths; one block of nothing is one
-    ∷ lengths (twenty ∷ []) (in_none 20) 10 none
-    ∷ lengths (in_none 20 ∷ []) twenty 10 (some (10 ∷ 10 ∷ []))
-    ∷ lengths [] (entry (range 0 25) (range 70 0) (0 ∷ []) []) 25 (some (25 ∷ []))
+    ∷ lengths (twenty ∷ []) (in_none 20) 10 None
+    ∷ lengths (in_none 20 ∷ []) twenty 10 (Some (10 ∷ 10 ∷ []))
+    ∷ lengths [] (entry (range 0 25) (range 70 0) (0 ∷ []) []) 25 (Some (25 ∷ []))
     -- deltas that hold the source range by themselves
-    ∷ lengths [] (in_three 0 (plus 20 ∷ plus 5 ∷ [])) 0 (some (20 ∷ 5 ∷ 0 ∷ []))
+    ∷ lengths [] (in_three 0 (plus 20 ∷ plus 5 ∷ [])) 0 (Some (20 ∷ 5 ∷ 0 ∷ []))
     -- a block of length 0, and blocks below it: the first, the second, the last
-    ∷ lengths [] (in_three 0 (minus 13 ∷ [])) 13 (some (0 ∷ 13 ∷ 12 ∷ []))
-    ∷ lengths [] (in_three 0 (minus 30 ∷ plus 50 ∷ [])) 2 none
-    ∷ lengths [] (in_three 0 (plus 9 ∷ minus 9 ∷ plus 9 ∷ [])) 6 none
-    ∷ lengths [] (in_three 0 (plus 20 ∷ plus 0 ∷ minus 20 ∷ [])) 9 none
+    ∷ lengths [] (in_three 0 (minus 13 ∷ [])) 13 (Some (0 ∷ 13 ∷ 12 ∷ []))
+    ∷ lengths [] (in_three 0 (minus 30 ∷ plus 50 ∷ [])) 2 None
+    ∷ lengths [] (in_three 0 (plus 9 ∷ minus 9 ∷ plus 9 ∷ [])) 6 None
+    ∷ lengths [] (in_three 0 (plus 20 ∷ plus 0 ∷ minus 20 ∷ [])) 9 None
     -- sums that 64 bits do not hold, and those that they just hold
-    ∷ lengths (twenty ∷ []) (added 20) 10 none
-    ∷ lengths (twenty ∷ []) (subtracted 20) 10 none
-    ∷ lengths (added 20 ∷ subtracted 45 ∷ []) twenty 10 (some (10 ∷ 10 ∷ []))
-    ∷ lengths [] (in_three 0 (plus 0 ∷ plus 0 ∷ plus greatest ∷ [])) 0 (some (0 ∷ 0 ∷ 25 ∷ []))
-    ∷ lengths [] (entry (range 0 0) (range 0 1) [] (minus greatest ∷ [])) greatest (some (0 ∷ []))
+    ∷ lengths (twenty ∷ []) (added 20) 10 None
+    ∷ lengths (twenty ∷ []) (subtracted 20) 10 None
+    ∷ lengths (added 20 ∷ subtracted 45 ∷ []) twenty 10 (Some (10 ∷ 10 ∷ []))
+    ∷ lengths [] (in_three 0 (plus 0 ∷ plus 0 ∷ plus greatest ∷ [])) 0 (Some (0 ∷ 0 ∷ 25 ∷ []))
+    ∷ lengths [] (entry (range 0 0) (range 0 1) [] (minus greatest ∷ [])) greatest (Some (0 ∷ []))
     ∷ []
 
 pub lengths_hold : map (λ (r : Lengths). lengths r.front r.last (stride (r.front ++ (r.last ∷ []))) (sources r.stride r.last)) strides ≡ strides

@@ -1,7 +1,7 @@
 -- The source lengths of an entry's blocks, said without a computation.
 use Prim.Native.Nat.{ℕ, zero, suc, ◌+◌, ◌-◌, ◌≤◌, ◌<◌}
 use Rattle.std.specs.Prelude.{Bool, true, false, cond, List, [], ◌∷◌, ◌↔◌, ◌≡◌, refl, leb, length}
-use Rattle.std.proofs.Math.Option.{Option, none, some}
+use Rattle.std.specs.Prelude.{Option, None, Some}
 use Rattle.std.proofs.Math.Path.{ap}
 use Rattle.std.proofs.Common.{subst, not-suc-le-zero, le_of_suc-le-suc, arith, leb-true, le-leb}
 use Rattle.std.proofs.Math.ListN.{get_or}
@@ -25,11 +25,11 @@ pub record SourceLengths (s whole last : ℕ) (ds : List Int) (ns : List ℕ) : 
 abbrev pub IsSources : ℕ → Entry → List ℕ → Type 0
 IsSources s e ns = SourceLengths s e.source.len (blocks e - 1) e.deltas ns
 
-moved_exactly : (s : ℕ) (d : Int) (n : ℕ) → moved s d ≡ some n ↔ (n + loss d ≡ s + gain d)
-moved_exactly s (plus m) n = (λ e. let same : s + m ≡ n = cc in omega arith, λ e. ap some (omega arith))
-moved_exactly s (minus m) n = (λ e. below (leb m s) refl e, λ e. rw (le-leb m s (omega arith)) (ap some (omega arith)))
+moved_exactly : (s : ℕ) (d : Int) (n : ℕ) → moved s d ≡ Some n ↔ (n + loss d ≡ s + gain d)
+moved_exactly s (plus m) n = (λ e. let same : s + m ≡ n = cc in omega arith, λ e. ap Some (omega arith))
+moved_exactly s (minus m) n = (λ e. below (leb m s) refl e, λ e. rw (le-leb m s (omega arith)) (ap Some (omega arith)))
   where
-    below : (t : Bool) → leb m s ≡ t → cond t (some (s - m)) none ≡ some n → n + m ≡ s + 0
+    below : (t : Bool) → leb m s ≡ t → cond t (Some (s - m)) None ≡ Some n → n + m ≡ s + 0
     below true l e = let same : s - m ≡ n = cc in omega (arith, leb-true m s l)
     below false l e = absurd_numbers (cc)
 
@@ -44,7 +44,7 @@ other_deltas_lem (d ∷ ds) k = refl
 -- one block more in front
 module _ (s left n last : ℕ) (ds : List Int) (ns : List ℕ) where
   record InFront : Type 0 where
-    length_is : moved s (first_delta ds) ≡ some n
+    length_is : moved s (first_delta ds) ≡ Some n
     fits : n ≤ left
     others : SourceLengths s (left - n) last (other_deltas ds) ns
 
@@ -79,22 +79,22 @@ module _ (s left n last : ℕ) (ds : List Int) (ns : List ℕ) where
 module _ {A B : Type 0} where
   pub record There (o : Option A) (next : A → Option B) (b : B) : Type 0 where
     pub given : A
-    pub is : o ≡ some given
-    pub answers : next given ≡ some b
+    pub is : o ≡ Some given
+    pub answers : next given ≡ Some b
 
-  pub there : (o : Option A) (next : A → Option B) (b : B) → if_there o next ≡ some b → There o next b
-  there (some a) next b e = record { given = a; is = refl; answers = e }
-  there none next b e = absurd_numbers (cc)
+  pub there : (o : Option A) (next : A → Option B) (b : B) → if_there o next ≡ Some b → There o next b
+  there (Some a) next b e = record { given = a; is = refl; answers = e }
+  there None next b e = absurd_numbers (cc)
 
-  there_over : (f : A → B) (o : Option A) (b : B) → over f o ≡ some b → There o (λ a. some (f a)) b
-  there_over f (some a) b e = record { given = a; is = refl; answers = e }
-  there_over f none b e = absurd_numbers (cc)
+  there_over : (f : A → B) (o : Option A) (b : B) → over f o ≡ Some b → There o (λ a. Some (f a)) b
+  there_over f (Some a) b e = record { given = a; is = refl; answers = e }
+  there_over f None b e = absurd_numbers (cc)
 
-passed : {A : Type 0} (t : Bool) (o : Option A) (a : A) → cond t o none ≡ some a → (t ≡ true) × (o ≡ some a)
+passed : {A : Type 0} (t : Bool) (o : Option A) (a : A) → cond t o None ≡ Some a → (t ≡ true) × (o ≡ Some a)
 passed true o a e = (refl, e)
 passed false o a e = absurd_numbers (cc)
 
-sources_are : (s left last : ℕ) (ds : List Int) (ns : List ℕ) → sources_from s left last ds ≡ some ns → SourceLengths s left last ds ns
+sources_are : (s left last : ℕ) (ds : List Int) (ns : List ℕ) → sources_from s left last ds ≡ Some ns → SourceLengths s left last ds ns
 unfolding sources_from sum
 sources_are s left zero ds ns e =
     let same : left ∷ [] ≡ ns = cc in
@@ -109,7 +109,7 @@ sources_are s left (suc last) ds ns e =
     (put_in_front s left n last ds r.given
     (record { length_is = m.is; fits = leb-true n left f.0; others = sources_are s (left - n) last (other_deltas ds) r.given r.is }))
 
-are_sources : (s left last : ℕ) (ds : List Int) (ns : List ℕ) → SourceLengths s left last ds ns → sources_from s left last ds ≡ some ns
+are_sources : (s left last : ℕ) (ds : List Int) (ns : List ℕ) → SourceLengths s left last ds ns → sources_from s left last ds ≡ Some ns
 unfolding sources_from sum
 are_sources s left zero ds [] h = let c = h.count in absurd (omega arith)
 are_sources s left zero ds (n ∷ []) h = let f = h.fill in let same : left ≡ n = omega arith in rw same
@@ -119,7 +119,7 @@ are_sources s left (suc last) ds (n ∷ ns) h =
     let f = taken_from_front s left n last ds ns h in
     rw (f.length_is, le-leb n left f.fits, are_sources s (left - n) last (other_deltas ds) ns f.others)
 
-pub sources_exactly : (s : ℕ) (e : Entry) (ns : List ℕ) → sources s e ≡ some ns ↔ (Counted e × IsSources s e ns)
+pub sources_exactly : (s : ℕ) (e : Entry) (ns : List ℕ) → sources s e ≡ Some ns ↔ (Counted e × IsSources s e ns)
 unfolding sources
 sources_exactly s e ns = (
   λ h. let p = passed (is_counted e) _ ns h in (counted_is e p.0, sources_are s e.source.len (blocks e - 1) e.deltas ns p.1),
@@ -130,9 +130,9 @@ sources_exactly s e ns = (
 abbrev pub NoSources : ℕ → Entry → Type 0
 NoSources s e = (ns : List ℕ) → Counted e → IsSources s e ns → ⊥
 
-pub no_sources_exactly : (s : ℕ) (e : Entry) → sources s e ≡ none ↔ NoSources s e
+pub no_sources_exactly : (s : ℕ) (e : Entry) → sources s e ≡ None ↔ NoSources s e
 no_sources_exactly s e = (λ h ns c i. absurd_numbers (let f = (sources_exactly s e ns).1 (c, i) in cc), go (sources s e) refl)
   where
-    go : (o : Option (List ℕ)) → sources s e ≡ o → NoSources s e → o ≡ none
-    go none f h = refl
-    go (some ns) f h = let g = (sources_exactly s e ns).0 f in absurd (h ns g.0 g.1)
+    go : (o : Option (List ℕ)) → sources s e ≡ o → NoSources s e → o ≡ None
+    go None f h = refl
+    go (Some ns) f h = let g = (sources_exactly s e ns).0 f in absurd (h ns g.0 g.1)

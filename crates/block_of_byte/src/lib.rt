@@ -3,8 +3,6 @@
 #![tactic(auto)]
 
 ghost use Rattle.std.specs.Prelude.{cond, ◌≡◌, ◌+◌, ◌-◌, leb, drop};
-ghost use Rattle.std.proofs.Math.Option.{none, some};
-ghost use Rattle.endian.specs.Places.{number_of};
 ghost use Rattle.refusals.specs.Answers.{granted};
 ghost use Rattle.msgpack.specs.Items.{pass_over};
 ghost use Rattle.msgpack.specs.Readers.{plus, integer_read, read_integer};
@@ -13,11 +11,10 @@ ghost use Rattle.msgpack.specs.Views.{size_of};
 ghost use Rattle.value.specs.Fields.{read_natural};
 ghost use Rattle.pack_list.specs.Answers.{entry_of, held_of, HeldIs};
 ghost use Rattle.block_of_byte.specs.Finding.{found_in};
-ghost use Rattle.block_of_byte.specs.Answers.{length_of, moved_by, at_most, block_of, noted_of, block_at, Offset, FoundStands, found_of, find_in};
+ghost use Rattle.block_of_byte.specs.Answers.{moved_by, at_most, noted_of, block_at, Offset, FoundStands, found_of, find_in};
 
-use endian::Number;
 use msgpack::Integer;
-use pack_list::{Entry, Fault, Held, Holder, ListRead, Numbers, Range};
+use pack_list::{Entry, Held, Numbers, Range};
 
 // A block by its number in its entry, and its record's range of the pack.
 #[derive(Clone, Copy)]
@@ -26,62 +23,34 @@ pub struct Block {
     pub stored: Range,
 }
 
-#[derive(Clone, Copy)]
-enum BlockFound {
-    Block(Block),
-    // A block would have a length below 0.
-    None,
-}
-
-#[derive(Clone, Copy)]
-enum Length {
-    Of(u64),
-    Below,
-}
-
-// The source length of a block that is not the last: the stride with its delta, at most what is left.
-fn source_length(stride: u64, delta: Integer, left: u64) -> Length
-    ensures { length_of result ≡ at_most left (moved_by stride (integer_read delta)) }
+// The source length of a block that is not the last: the stride with its delta, at least 0 and at most what
+// is left.
+fn source_length(stride: u64, delta: Integer, left: u64) -> Option<u64>
+    ensures { result ≡ at_most left (moved_by stride (integer_read (Some delta))) }
 {
-    match delta {
-        Integer::NonNegative(n, _) => {
-            if left < n {
-                return Length::Below;
-            }
-            if left - n < stride {
-                return Length::Below;
-            }
-            Length::Of(stride + n)
-        }
-        Integer::Negative(n, _) => {
-            if stride < n {
-                return Length::Below;
-            }
-            if left < stride - n {
-                return Length::Below;
-            }
-            Length::Of(stride - n)
-        }
-        Integer::Missing => Length::Below,
-    }
+    let len = match delta {
+        Integer::NonNegative(n, _) => stride.checked_add(n)?,
+        Integer::Negative(n, _) => stride.checked_sub(n)?,
+    };
+    if len <= left { Some(len) } else { None }
 }
 
 // The k-th length that is listed, which stands at a place.
-fn length_at(part: &[u8], lengths: Numbers, k: usize, at: usize) -> Number
-    ensures { number_of result ≡ cond (leb lengths.count k) none (read_natural (drop at part.now)) }
+fn length_at(part: &[u8], lengths: Numbers, k: usize, at: usize) -> Option<u64>
+    ensures { result ≡ cond (leb lengths.count k) None (read_natural (drop at part.now)) }
 {
     if lengths.count <= k {
-        return Number::Missing;
+        return None;
     }
     value::natural_at(slices::from(part, at))
 }
 
 // The k-th delta, which stands at a place, and 0 behind the last.
-fn delta_at(part: &[u8], deltas: Numbers, k: usize, at: usize) -> Integer
-    ensures { integer_read result ≡ cond (leb deltas.count k) (some (plus 0)) (read_integer (drop at part.now)) }
+fn delta_at(part: &[u8], deltas: Numbers, k: usize, at: usize) -> Option<Integer>
+    ensures { integer_read result ≡ cond (leb deltas.count k) (Some (plus 0)) (read_integer (drop at part.now)) }
 {
     if deltas.count <= k {
-        return Integer::NonNegative(0, true);
+        return Some(Integer::NonNegative(0, true));
     }
     msgpack::read_integer(slices::from(part, at))
 }
@@ -96,34 +65,19 @@ fn delta_after(part: &[u8], deltas: Numbers, k: usize, at: usize) -> usize
     pack_list::after(part, at)
 }
 
-// a - b, or 0.
-fn less(a: u64, b: u64) -> u64
-    ensures { result ≡ a - b }
-{
-    if b <= a { a - b } else { 0 }
-}
-
 // This block, where it is the first to hold the byte.
-fn noted(found: BlockFound, holds: bool, block: Block) -> BlockFound
-    ensures { block_of result ≡ noted_of (block_of found) holds block }
+fn noted(found: Option<Block>, holds: bool, block: Block) -> Option<Block>
+    ensures { result ≡ noted_of found holds block }
 {
-    match found {
-        BlockFound::Block(b) => BlockFound::Block(b),
-        BlockFound::None => {
-            if holds {
-                return BlockFound::Block(block);
-            }
-            BlockFound::None
-        }
-    }
+    if holds { found.or(Some(block)) } else { found }
 }
 
-// The block of an entry of so many blocks that holds the byte at an offset of its source range, if the
-// lengths of all its blocks are at least 0. The lengths listed and the rest fill the range of the pack, so
+// The block of an entry of so many blocks that holds the byte at an offset of its source range; none, where
+// a block would have a length below 0. The lengths listed and the rest fill the range of the pack, so
 // that the last block has what is left of it.
-fn block_in(part: &[u8], e: Entry, blocks: usize, stride: u64, offset: u64) -> BlockFound
+fn block_in(part: &[u8], e: Entry, blocks: usize, stride: u64, offset: u64) -> Option<Block>
     requires { Offset part.now e blocks offset }
-    ensures { block_of result ≡ if_there (entry_of part.now e) (block_at stride offset) }
+    ensures { result ≡ if_there (entry_of part.now e) (block_at stride offset) }
 {
     let lengths = e.lengths;
     let deltas = e.deltas;
@@ -134,30 +88,25 @@ fn block_in(part: &[u8], e: Entry, blocks: usize, stride: u64, offset: u64) -> B
     let mut behind = offset;
     let mut at = lengths.first;
     let mut delta = deltas.first;
-    let mut k = 0;
-    let mut found = BlockFound::None;
-    while k < last {
-        let Number::Read(len) = length_at(part, lengths, k, at) else {
-            return BlockFound::None;
-        };
-        let Length::Of(n) = source_length(stride, delta_at(part, deltas, k, delta), source) else {
-            return BlockFound::None;
-        };
+    let mut found = None;
+    for k in 0..last {
+        let len = length_at(part, lengths, k, at)?;
+        let moved = delta_at(part, deltas, k, delta)?;
+        let n = source_length(stride, moved, source)?;
         let block = Block {
             number: k,
             stored: Range { start, len },
         };
         found = noted(found, behind < n, block);
-        behind = less(behind, n);
+        behind = behind.saturating_sub(n);
         start += len;
         stored -= len;
         source -= n;
         at = pack_list::after(part, at);
         delta = delta_after(part, deltas, k, delta);
-        k += 1;
     }
     let block = Block {
-        number: k,
+        number: last,
         stored: Range { start, len: stored },
     };
     noted(found, true, block)
@@ -169,14 +118,13 @@ pub enum Found {
     // The entry with this number, whose lengths place the byte in no block.
     Entry(usize, Entry),
     Block(usize, Entry, Block),
-    Refused(Fault),
 }
 
 // The byte in the entry that holds it.
 fn find_in(part: &[u8], held: Held, stride: u64, byte: u64) -> Found
     requires { HeldIs part.now byte held }
-    ensures result_value { found_of part.now result ≡ granted (found_in stride byte (held_of part.now held)) }
-    ensures inside { FoundStands part.now result }
+    ensures result_value { found_of part.now (Ok result) ≡ granted (found_in stride byte (held_of part.now held)) }
+    ensures inside { FoundStands part.now (Ok result) }
 {
     let number = held.number;
     let e = held.entry;
@@ -185,21 +133,19 @@ fn find_in(part: &[u8], held: Held, stride: u64, byte: u64) -> Found
         return Found::Entry(number, e);
     }
     match block_in(part, e, held.blocks, stride, byte - source.start) {
-        BlockFound::Block(b) => Found::Block(number, e, b),
-        BlockFound::None => Found::Entry(number, e),
+        Some(b) => Found::Block(number, e, b),
+        None => Found::Entry(number, e),
     }
 }
 
 // The block that holds a byte of the version.
-pub fn find(part: &[u8], byte: u64) -> Found
+pub fn find(part: &[u8], byte: u64) -> Result<Found, pack_list::Fault>
     ensures result_value { found_of part.now result ≡ find_in part.now byte }
     ensures inside { FoundStands part.now result }
 {
-    match pack_list::read_for(part, byte) {
-        ListRead::Fault(f) => Found::Refused(f),
-        ListRead::List(_, stride, holder) => match holder {
-            Holder::None => Found::Nowhere,
-            Holder::Entry(held) => find_in(part, held, stride, byte),
-        },
+    let (_, stride, holder) = pack_list::read_for(part, byte)?;
+    match holder {
+        None => Ok(Found::Nowhere),
+        Some(held) => Ok(find_in(part, held, stride, byte)),
     }
 }

@@ -2,7 +2,7 @@
 use Prim.Native.Nat.{ℕ, ◌/◌, ◌%◌, ◌^◌, ◌≤◌, ◌<◌}
 use mathlib.Core.Bool.{Bool, true, false, cond}
 use mathlib.Core.List.{List, [], ◌∷◌, map}
-use mathlib.Core.Option.{Option, none, some}
+use Rattle.std.specs.Prelude.{Option, None, Some, Result, Err}
 use mathlib.Core.Path.{◌≡◌, refl, sym, ap, ◌∙◌}
 use native.Mathlib.Omega.{arith}
 use lib.Dec.{leb}
@@ -14,9 +14,14 @@ use Rattle.pack.specs.Bounds.{reading_bounded}
 use Rattle.pack.specs.Scan.{fitted}
 use Rattle.current_version.specs.Current as current-answer
 use Rattle.current_version.specs.Current.{Placed, placed, Version, version_of, filtered, lookup}
+use Rattle.lookup.specs.Answers.{fault_number, fault_place}
+use Rattle.lookup.specs.declared.Fault as lookup-code
+use Rattle.lookup.specs.declared.Fault.TheVariants.{Inadmissible, Pack, Unreadable}
 use Rattle.explanation.specs.Reasons.{line_of, is_named, with_first, versions_of, lines_of, Answer, explained, refused_at, alone, explain_by, explain}
 use Rattle.explanation.specs.Answers.{outcome, explained_of}
-use Rattle.explanation.specs.declared.Explained.{Explained}
+use Rattle.explanation.specs.declared.Explanation.{Explanation}
+use Rattle.explanation.specs.declared.Fault.{Fault}
+use Rattle.explanation.specs.declared.Fault.TheVariants.{Lookup}
 use Rattle.words.specs.Words.{answer, answer_whole}
 use Rattle.capi_lookup.specs.Explanation.{explain_answer}
 use Rattle.capi_lookup.proofs.Bounds.{lookup_bounded}
@@ -32,6 +37,16 @@ abbrev pub word_in : Outcome → ℕ
 word_in (pack.counted n) = n
 word_in (pack.refused n at) = at
 word_in (pack.alone n) = 0
+
+pub refusal_number : (f : lookup-code.Fault) → number_in (explained_of (Err (Lookup f))) ≡ fault_number f
+refusal_number Inadmissible = refl
+refusal_number (Pack f) = refl
+refusal_number (Unreadable f at) = refl
+
+pub refusal_word : (f : lookup-code.Fault) → word_in (explained_of (Err (Lookup f))) ≡ fault_place f
+refusal_word Inadmissible = refl
+refusal_word (Pack f) = refl
+refusal_word (Unreadable f at) = refl
 
 answered : (a : Answer) (words : ℕ) → explain_answer a words ≡ answer (number_in (fitted (outcome a) (words / 3))) (word_in (fitted (outcome a) (words / 3)))
 answered (explained ls) words = by (leb (length ls) (words / 3))
@@ -60,8 +75,8 @@ versions_few bucket object [] = omega arith
 versions_few bucket object (p ∷ ps) = by (filtered (is_named bucket object) (version_of p)) (versions_few bucket object ps)
   where
     by : (o : Option Version) → length (versions_of bucket object ps) ≤ length ps → length (with_first o (versions_of bucket object ps)) ≤ length (p ∷ ps)
-    by none h = omega arith
-    by (some v) h = omega arith
+    by None h = omega arith
+    by (Some v) h = omega arith
 
 module _ (s bucket object : List ℕ) where
   abbrev ps : List Placed
@@ -77,13 +92,13 @@ module _ (s bucket object : List ℕ) where
   explain_bounded = by (lookup pack_limit s bucket object) refl
     where
       by : (a : current-answer.Answer) → lookup pack_limit s bucket object ≡ a → word_in (outcome (explain_by a ps bucket object)) ≤ pack_limit
-      by current-answer.nothing e = lines_few none
-      by (current-answer.found v) e = lines_few (some v)
+      by current-answer.nothing e = lines_few None
+      by (current-answer.found v) e = lines_few (Some v)
       by (current-answer.refused_at n at) e = lookup_bounded pack_limit s bucket object n at e
       by (current-answer.alone n) e = omega arith
 
   -- `r` is what the library answered
-  pub explain_answers : (words : ℕ) (r : Explained) → explained_of r ≡ fitted (outcome (explain pack_limit s bucket object)) (words / 3)
+  pub explain_answers : (words : ℕ) (r : Result Explanation Fault) → explained_of r ≡ fitted (outcome (explain pack_limit s bucket object)) (words / 3)
       → (number word : ℕ) → number_in (explained_of r) ≡ number → word_in (explained_of r) ≡ word → number < 256
       → answer number word % 2 ^ 64 ≡ explain_answer (explain pack_limit s bucket object) words
   explain_answers words r is number word n w small =

@@ -2,6 +2,7 @@
 use Prim.Native.Nat.{ℕ, ◌+◌, ◌%◌, ◌^◌, ◌≤◌, ◌<◌}
 use mathlib.Core.Bool.{Bool, true, false, cond, not, ◌&&◌, and-true}
 use mathlib.Core.List.{List, [], ◌∷◌}
+use Rattle.std.specs.Prelude.{Option, None, Some, Result, Ok, Err}
 use mathlib.Core.Path.{◌≡◌, refl, sym, ap, ◌∙◌}
 use native.Mathlib.Nat.{zero-add}
 use native.Mathlib.Omega.{arith}
@@ -20,10 +21,10 @@ use Rattle.current_version.proofs.Exactly.{lookup_exactly}
 use Rattle.lookup_records.specs.Answers.{value_in}
 use Rattle.lookup_records.specs.Walk.{placed_from}
 use Rattle.lookup.specs.Search.{walk_ulids}
-use Rattle.lookup.specs.Answers.{version_in, found_of, VersionInside, is_refusal, ScratchAfter, scratch_free}
+use Rattle.lookup.specs.Answers.{version_in, fault_number, fault_place, found_of, VersionInside, is_refusal, ScratchAfter, scratch_free}
 use Rattle.lookup.specs.declared.Version as declared-version
-use Rattle.lookup.specs.declared.Found.{Found}
-use Rattle.lookup.specs.declared.Found.TheVariants.{Nothing, Current}
+use Rattle.lookup.specs.declared.Fault.{Fault}
+use Rattle.lookup.specs.declared.Fault.TheVariants.{Inadmissible, Pack, Unreadable}
 use Rattle.words.specs.Words.{answer, answer_whole, flag}
 use Rattle.capi_lookup.specs.Current.{fits, current_answer, current_told, current_ulid}
 use Rattle.capi_lookup.proofs.Bounds.{lookup_bounded}
@@ -81,21 +82,21 @@ found_length limit s bucket object v e =
     ulid_length v.identifier.ulid (walk_ulids limit s 0 c.at v m c.live.tells)
 
 -- `f` is what the code found
-module _ (s bucket object told ulid : List ℕ) (f : Found) (looked : found_of s f ≡ lookup pack_limit s bucket object) where
+module _ (s bucket object told ulid : List ℕ) (f : Result (Option declared-version.Version) Fault) (looked : found_of s f ≡ lookup pack_limit s bucket object) where
   abbrev Answers : ℕ → List ℕ → List ℕ → Type 0
   Answers r t u =
       (r ≡ current_answer (lookup pack_limit s bucket object) (length told) (length ulid))
       × ((t ≡ current_told (lookup pack_limit s bucket object) told (length ulid))
       × (u ≡ current_ulid (lookup pack_limit s bucket object) (length told) ulid))
 
-  pub answers_nothing : f ≡ Nothing → (r : ℕ) (t u : List ℕ) → Tells told ulid (0 ∷ 0 ∷ 0 ∷ 0 ∷ []) [] r t u → Answers r t u
+  pub answers_nothing : f ≡ Ok None → (r : ℕ) (t u : List ℕ) → Tells told ulid (0 ∷ 0 ∷ 0 ∷ 0 ∷ []) [] r t u → Answers r t u
   answers_nothing is r t u h =
       let e : nothing ≡ lookup pack_limit s bucket object = sym (ap (found_of s) is) ∙ looked in
       let fits_none : (leb 4 (length told) && leb 0 (length ulid)) ≡ leb 4 (length told) = rw (le-leb 0 (length ulid) (omega arith), and-true) in
       let g = rw fits_none at h in
       rw (← e) (g.0, (g.1.0, g.1.1 ∙ rw none_overwritten (either_same (leb 4 (length told)) ulid)))
 
-  pub answers_found : (v : declared-version.Version) → f ≡ Current v → VersionInside s v
+  pub answers_found : (v : declared-version.Version) → f ≡ Ok (Some v) → VersionInside s v
       → (r : ℕ) (t u : List ℕ) → Tells told ulid (1 ∷ v.start ∷ v.len ∷ flag v.deleted ∷ []) (part_at s v.identifier.ulid) r t u → Answers r t u
   answers_found v is inside r t u h =
       let e : found (version_in s v) ≡ lookup pack_limit s bucket object = sym (ap (found_of s) is) ∙ looked in
@@ -104,11 +105,13 @@ module _ (s bucket object told ulid : List ℕ) (f : Found) (looked : found_of s
       = length-take-le v.len (drop 32 (drop v.start s)) (rw (length-drop, length-drop) (omega (arith, inside.value.inside.end))) in
       rw (← e, value) (rw text at h)
 
-  pub answers_refused : (n place : ℕ) → found_of s f ≡ refused_at n place → n < 256 → Answers (answer n place % 2 ^ 64) told ulid
+  answers_refused : (n place : ℕ) → found_of s f ≡ refused_at n place → n < 256 → Answers (answer n place % 2 ^ 64) told ulid
   answers_refused n place is small =
       let e : lookup pack_limit s bucket object ≡ refused_at n place = sym looked ∙ is in
       let within = lookup_bounded pack_limit s bucket object n place e in
       rw (answer_whole n place small (omega arith), e) (refl, (refl, refl))
 
-  pub answers_alone : (n : ℕ) → found_of s f ≡ alone n → Answers (answer n 0) told ulid
-  answers_alone n is = rw (sym looked ∙ is) (refl, (refl, refl))
+  pub answers_fault : (x : Fault) → f ≡ Err x → fault_number x < 256 → Answers (answer (fault_number x) (fault_place x) % 2 ^ 64) told ulid
+  answers_fault Inadmissible is small = rw (answer_whole 20 0 small (omega arith), sym looked ∙ ap (found_of s) is) (refl, (refl, refl))
+  answers_fault (Pack x) is small = answers_refused _ _ (ap (found_of s) is) small
+  answers_fault (Unreadable x at) is small = answers_refused _ _ (ap (found_of s) is) small

@@ -12,8 +12,7 @@ ghost use Rattle.words.specs.Words.{answer};
 ghost use Rattle.capi_lookup.specs.Current.{fits, current_answer, current_told, current_ulid};
 ghost use Rattle.capi_lookup.specs.Explanation.{explain_answer};
 
-use explanation::Explained;
-use lookup::Found;
+use explanation::Fault;
 
 // Four words and a text, where there is room for both.
 fn tell(told: &mut [u64], ulid: &mut [u8], row: [u64; 4], text: &[u8]) -> u64
@@ -58,15 +57,12 @@ fn look_up(
         scratch.old scratch.new }
 {
     match lookup::lookup_with(pack, bucket, object, scratch) {
-        Found::Nothing => tell(out, ulid, [0; 4], b""),
-        Found::Current(v) => {
+        Ok(None) => tell(out, ulid, [0; 4], b""),
+        Ok(Some(v)) => {
             let row = [1, v.start as u64, v.len as u64, words::flag(v.deleted)];
             tell(out, ulid, row, slices::part(pack, v.identifier.ulid))
         }
-        Found::Inadmissible => words::answer(20, 0),
-        Found::TooLong => words::answer(1, 0),
-        Found::Fault(f, at) => words::answer(tlv::number(f), at),
-        Found::Unreadable(f, at) => words::answer(records::number(f), at),
+        Err(f) => words::answer(u8::from(f), f.place()),
     }
 }
 
@@ -134,11 +130,8 @@ pub extern "C" fn vof_explain(pack: &[u8], bucket: &[u8], object: &[u8], told: &
         ≡ told_after (explain pack_limit pack.now bucket.now object.now) told.old }
 {
     match explanation::explain(pack, bucket, object, told) {
-        Explained::Lines(n, _) => words::answer(0, n),
-        Explained::Inadmissible => words::answer(20, 0),
-        Explained::TooLong => words::answer(1, 0),
-        Explained::Fault(f, at) => words::answer(tlv::number(f), at),
-        Explained::Unreadable(f, at) => words::answer(records::number(f), at),
-        Explained::Short => words::answer(19, 0),
+        Ok(e) => words::answer(0, e.count),
+        Err(Fault::Lookup(f)) => words::answer(u8::from(f), f.place()),
+        Err(Fault::NoRoom) => words::answer(19, 0),
     }
 }

@@ -5,6 +5,7 @@ use mathlib.Core.Path.{◌≡◌, refl, sym, ap, ◌∙◌}
 use native.Mathlib.Omega.{arith}
 use borrow.Author.Tests.{le-leb, lt-leb}
 use lib.ListN.{length}
+use Rattle.std.specs.Prelude.{Result, Ok}
 use Rattle.slices.specs.Overwriting.{overwritten}
 use Rattle.slices.specs.Logic.{absurd_numbers}
 use Rattle.refusals.specs.Limit.{pack_limit}
@@ -13,8 +14,7 @@ use Rattle.pack.specs.Bounds.{reading_bounded}
 use Rattle.pack.proofs.Acceptance.{accepted_reading}
 use Rattle.pack.specs.Scan.{scanned, first_entries, first_entries_lem}
 use Rattle.pack.specs.declared.Entry.{Entry}
-use Rattle.pack.specs.declared.Checked.{Checked}
-use Rattle.pack.specs.declared.Checked.TheVariants.{Records}
+use Rattle.pack.specs.declared.Fault.{Fault}
 use Rattle.words.specs.Words.{answer, answer_whole}
 use Rattle.capi_pack.specs.Scan.{entry_words, outcome_answer, scan_told}
 
@@ -35,7 +35,7 @@ counted_whole r n e = by r.entries r.ending e
     by es (refused m at) q = absurd_numbers (cc)
 
 -- `c` is what the check answered
-module _ (s told : List ℕ) (c : Checked) (checked : outcome_of c ≡ outcome (reading pack_limit s)) where
+module _ (s told : List ℕ) (c : Result ℕ Fault) (checked : outcome_of c ≡ outcome (reading pack_limit s)) where
   -- what the scan answers, and what it leaves
   abbrev Scans : ℕ → List ℕ → Type 0
   Scans r left = (r ≡ outcome_answer (scanned (reading pack_limit s) (length told / 4))) × (left ≡ scan_told (reading pack_limit s) told)
@@ -46,7 +46,7 @@ module _ (s told : List ℕ) (c : Checked) (checked : outcome_of c ≡ outcome (
       let within = (reading_bounded pack_limit s).place n place ends in
       rw (answer_whole n place small (omega arith), ends) (refl, refl)
 
-  module _ (n : ℕ) (is : c ≡ Records n) where
+  module _ (n : ℕ) (is : c ≡ Ok n) where
     counts : ((reading pack_limit s).ending ≡ whole) × (n ≡ length (reading pack_limit s).entries)
     counts = counted_whole (reading pack_limit s) n (sym (ap outcome_of is) ∙ checked)
 

@@ -1,6 +1,6 @@
 -- The search by a value's hash among words that tell of entries, four for each. It is the search of `pack::find_hash`, over the fourth words.
 use Rattle.std.specs.Prelude.{ℕ, zero, suc, ◌+◌, ◌*◌, ◌/◌, ◌^◌, ◌≤◌, ◌<◌, cond, List, [], ◌∷◌, ◌≡◌, refl, ltb, length, get_or}
-use Rattle.std.proofs.Math.Option.{Option, none, some}
+use Rattle.std.specs.Prelude.{Option, None, Some}
 use Rattle.std.proofs.Math.Path.{fun_ext}
 use Rattle.std.proofs.Common.{arith, lt-ltb, le-ltb}
 use Rattle.pack.specs.Search.{first, first_with, hash_at}
@@ -15,8 +15,8 @@ hash_told told k = get_or told (4 * k + 3) 0
 
 -- 1 and the place that was found, or 0
 abbrev pub place_word : Option ℕ → ℕ
-place_word none = 0
-place_word (some k) = 1 + k
+place_word None = 0
+place_word (Some k) = 1 + k
 
 abbrev pub search_word : ℕ → List ℕ → ℕ
 search_word n told = place_word (first (hash_told told) n 0 (length told / 4))
@@ -39,8 +39,8 @@ pub search_word_most : (n : ℕ) (told : List ℕ) → search_word n told ≤ le
 search_word_most n told = go (first (hash_told told) n 0 (length told / 4)) refl
   where
     go : (o : Option ℕ) → first (hash_told told) n 0 (length told / 4) ≡ o → place_word o ≤ length told
-    go none e = omega arith
-    go (some k) e = omega (arith, ((first_exactly (hash_told told) n (length told / 4) k).0 e).inside)
+    go None e = omega arith
+    go (Some k) e = omega (arith, ((first_exactly (hash_told told) n (length told / 4) k).0 e).inside)
 
 -- ---- among the words that a scan tells, the search finds what `pack::find_hash` finds among the entries
 

@@ -7,22 +7,18 @@ ghost use Rattle.pack.specs.Scan.{scanned, first_entries};
 ghost use Rattle.capi_pack.specs.Scan.{entry_words, outcome_answer, scan_told};
 ghost use Rattle.capi_pack.specs.Search.{search_word, search_answer};
 
-use pack::Checked;
-
 // The first n records of a pack that has been checked go to the front.
 fn fill(pack: &[u8], told: &mut [u64], n: usize)
     requires { 4 * n ≤ length told.old }
     ensures { told.new ≡ overwritten told.old 0 (entry_words (first_entries n pack.now 0)) }
 {
-    let mut i = 0;
     let mut at = 0;
-    while i < n {
+    for i in 0..n {
         let passed = tlv::pass_at(pack, at);
         let header = passed.header;
         let entry = [at as u64, header.tag as u64, header.length, header.hash];
         words::store(told, 4 * i, &entry);
         at = passed.next;
-        i += 1;
     }
 }
 
@@ -34,15 +30,14 @@ pub extern "C" fn vof_scan(pack: &[u8], told: &mut [u64]) -> u64
     ensures told { told.new ≡ scan_told (reading pack_limit pack.now) told.old }
 {
     match pack::check(pack) {
-        Checked::Records(n) => {
+        Ok(n) => {
             if told.len() / 4 < n {
                 return words::answer(19, 0);
             }
             fill(pack, told, n);
             words::answer(0, n)
         }
-        Checked::TooLong => words::answer(1, 0),
-        Checked::Fault(f, at) => words::answer(tlv::number(f), at),
+        Err(f) => words::answer(u8::from(f), f.place()),
     }
 }
 
@@ -55,13 +50,10 @@ const SEARCHED: usize = 1 << 34;
 fn find(told: &[u64], hash: u64) -> usize
     ensures { result ≡ search_word hash told.now }
 {
-    let n = told.len() / 4;
-    let mut i = 0;
-    while i < n {
+    for i in 0..told.len() / 4 {
         if told[4 * i + 3] == hash {
             return i + 1;
         }
-        i += 1;
     }
     0
 }

@@ -2,7 +2,7 @@
 -- `vof_pack_list`, and the lent words at exit, from what was read.
 use Prim.Native.Nat.{ℕ, ◌+◌, ◌-◌, ◌*◌, ◌/◌, ◌%◌, ◌^◌, ◌≤◌, ◌<◌}
 use mathlib.Core.List.{List, [], ◌∷◌, ◌++◌}
-use mathlib.Core.Option.{some}
+use Rattle.std.specs.Prelude.{Option, None, Some, Result, Ok}
 use mathlib.Core.Path.{◌≡◌, refl, sym, ap, ◌∙◌}
 use native.Mathlib.Omega.{arith}
 use borrow.Author.Tests.{le-leb, lt-leb}
@@ -21,9 +21,7 @@ use Rattle.pack_list.specs.declared.Numbers.{Numbers}
 use Rattle.pack_list.specs.declared.Entry as placed
 use Rattle.pack_list.specs.declared.PackList as listed
 use Rattle.pack_list.specs.declared.NextEntry.{NextEntry}
-use Rattle.pack_list.specs.declared.NextEntry.TheVariants as next-answer
-use Rattle.pack_list.specs.declared.Reading.{Reading}
-use Rattle.pack_list.specs.declared.Reading.TheVariants as reading-answer
+use Rattle.pack_list.specs.declared.Fault.{Fault}
 use Rattle.words.specs.Words.{answer, answer_whole}
 use Rattle.capi_pack_list.specs.PackLists.{pack_start, entry_words, list_words, list_answer, list_told}
 use Rattle.capi_pack_list.proofs.PackLists.{start_told}
@@ -74,37 +72,37 @@ module _ (s : List ℕ) (n : Numbers) where
         let empty : f.others ≡ [] = walk_end s i at f.others (rw none_left at f.left) in
         sym (f.goes ∙ rw (empty, none_overwritten))
 
-    module _ (h : i < n.count) (r : NextEntry) (told-next : next_of s r ≡ next_entry s at) (here : NextInside s at r) where
+    module _ (h : i < n.count) (r : Option NextEntry) (told-next : next_of s r ≡ next_entry s at) (here : NextInside s at r) where
       walked : Walked s i at (n.count - i) f.others r
       walked = walk_on s i at (n.count - i) f.others f.left (omega arith) r told-next here
 
       -- there is an entry
-      pub not_missing : r ≡ next-answer.Missing → ⊥
+      pub not_missing : r ≡ None → ⊥
       not_missing e = let is = walked.is in absurd_numbers (cc)
 
-      module _ (e : placed.Entry) (count next : ℕ) (is : r ≡ next-answer.Entry e count next) where
-        same_entry : walked.entry ≡ e
-        same_entry = let w = walked.is in cc
+      module _ (g : NextEntry) (is : r ≡ Some g) where
+        same_given : walked.given ≡ g
+        same_given = let w = walked.is in cc
 
-        same_next : walked.next ≡ next
-        same_next = let w = walked.is in cc
+        abbrev e : placed.Entry
+        e = g.entry
 
-        reads : entry_of s e ≡ some walked.first
-        reads = rw (← same_entry) walked.reads
+        reads : entry_of s e ≡ Some walked.first
+        reads = rw (← same_given) walked.reads
 
-        as_many : count ≡ blocks walked.first
-        as_many = let w = walked.is in let same : walked.count ≡ count = cc in sym same ∙ walked.as_many
+        as_many : g.blocks ≡ blocks walked.first
+        as_many = rw (← same_given) walked.as_many
 
         -- its words, as the code has them
         abbrev here_words : List ℕ
-        here_words = e.pack.start ∷ e.source.start ∷ e.source.len ∷ e.stored.start ∷ e.stored.len ∷ count ∷ []
+        here_words = e.pack.start ∷ e.source.start ∷ e.source.len ∷ e.stored.start ∷ e.stored.len ∷ g.blocks ∷ []
 
         words_are : here_words ≡ entry_words (pack_start s i) walked.first
         words_are =
             let w = entry_is s e walked.first reads in
-            rw (start_told s i e (rw (← same_entry) walked.stands), w.source, w.stored, as_many)
+            rw (start_told s i e (rw (← same_given) walked.stands), w.source, w.stored, as_many)
 
-        pub goes_on : (now : List ℕ) → now ≡ written_bytes told (6 * i) here_words → FilledTo before now (i + 1) next
+        pub goes_on : (now : List ℕ) → now ≡ written_bytes told (6 * i) here_words → FilledTo before now (i + 1) g.next
         unfolding list_words
         goes_on now put =
             let room : 6 * i + 6 ≤ length told = omega (arith, f.long) in
@@ -119,7 +117,7 @@ module _ (s : List ℕ) (n : Numbers) where
               passed = omega arith;
               long = ap length e ∙ length_overwritten told (6 * i) here_words room ∙ f.long;
               others = rest;
-              left = rw (← same_next, ← left) walked.rest;
+              left = rw (← same_given, ← left) walked.rest;
               count = fewer;
               goes = f.goes ∙ ap (λ (es : List Entry). overwritten told (6 * i) (list_words s i es)) cut
                   ∙ ap (λ (ws : List ℕ). overwritten told (6 * i) (ws ++ list_words s (i + 1) rest)) (sym words_are)
@@ -129,7 +127,7 @@ module _ (s : List ℕ) (n : Numbers) where
 -- ---- the answer
 
 -- `r` is what the code read
-module _ (s : List ℕ) (bytes : AllBytes s) (words : List ℕ) (r : Reading) (reads : reading_of s r ≡ pack_list s) (inside : ReadingInside s r) where
+module _ (s : List ℕ) (bytes : AllBytes s) (words : List ℕ) (r : Result listed.PackList Fault) (reads : reading_of s r ≡ pack_list s) (inside : ReadingInside s r) where
   -- what is answered, and what is left
   abbrev Tells : ℕ → List ℕ → Type 0
   Tells x left = (x ≡ list_answer (pack_list s) (length words)) × (left ≡ list_told s (pack_list s) words)
@@ -137,7 +135,7 @@ module _ (s : List ℕ) (bytes : AllBytes s) (words : List ℕ) (r : Reading) (r
   pub list_refused : (n : ℕ) → reading_of s r ≡ refused n → n < 256 → Tells (answer n 0 % 2 ^ 64) words
   list_refused n is small = rw (answer_whole n 0 small (omega arith), sym reads ∙ is) (refl, refl)
 
-  module _ (l : listed.PackList) (is : r ≡ reading-answer.List l) where
+  module _ (l : listed.PackList) (is : r ≡ Ok l) where
     pub list_inside : ListInside s l
     list_inside = inside.list l is
 

@@ -3,7 +3,7 @@
 use Prim.Native.Nat.{ℕ, ◌-◌, ◌%◌, ◌^◌, ◌<◌}
 use mathlib.Core.Bool.{cond}
 use mathlib.Core.List.{List, [], ◌∷◌}
-use mathlib.Core.Option.{Option, none, some}
+use Rattle.std.specs.Prelude.{Option, None, Some, Result, Ok}
 use mathlib.Core.Path.{◌≡◌, refl, sym, ap, ◌∙◌}
 use native.Mathlib.Omega.{arith}
 use lib.Dec.{leb}
@@ -14,6 +14,7 @@ use Rattle.pack_list.specs.Lists.{Entry}
 use Rattle.pack_list.specs.Answers.{entry_of, entry_items, EntryStands}
 use Rattle.pack_list.specs.Walks.{entry_is}
 use Rattle.pack_list.specs.declared.Entry as placed
+use Rattle.pack_list.specs.declared.Fault.{Fault}
 use Rattle.block_of_byte.specs.Finding.{Found, nowhere, in_entry, in_block}
 use Rattle.block_of_byte.specs.Answers.{found_of, find_in, FoundStands}
 use Rattle.block_of_byte.specs.declared.Block.{Block}
@@ -34,7 +35,7 @@ start_told s number e st =
 -- ---- a byte
 
 -- `r` is what the code found
-module _ (s words : List ℕ) (byte : ℕ) (r : found.Found) (finds : found_of s r ≡ find_in s byte) where
+module _ (s words : List ℕ) (byte : ℕ) (r : Result found.Found Fault) (finds : found_of s r ≡ find_in s byte) where
   -- what is answered, and what is left
   abbrev Tells : ℕ → List ℕ → Type 0
   Tells x left = (x ≡ find_answer (find_in s byte) (length words)) × (left ≡ find_told s (find_in s byte) words)
@@ -50,11 +51,11 @@ module _ (s words : List ℕ) (byte : ℕ) (r : found.Found) (finds : found_of s
   unfolding written_bytes
   find_told_lem f is list are six = rw (sym finds ∙ is, six, ← are) (refl, refl)
 
-  pub found_nowhere : r ≡ found-answer.Nowhere → TellsBy (0 ∷ 0 ∷ 0 ∷ 0 ∷ 0 ∷ 0 ∷ [])
+  pub found_nowhere : r ≡ Ok found-answer.Nowhere → TellsBy (0 ∷ 0 ∷ 0 ∷ 0 ∷ 0 ∷ 0 ∷ [])
   found_nowhere is = find_told_lem nowhere (ap (found_of s) is) _ refl refl
 
   module _ (stands : FoundStands s r) where
-    pub found_entry_lem : (k : ℕ) (e : placed.Entry) → r ≡ found-answer.Entry k e
+    pub found_entry_lem : (k : ℕ) (e : placed.Entry) → r ≡ Ok (found-answer.Entry k e)
         → TellsBy (1 ∷ k ∷ 0 ∷ e.pack.start ∷ e.stored.start ∷ e.stored.len ∷ [])
     found_entry_lem k e is = by (entry_of s e) refl
       where
@@ -62,10 +63,10 @@ module _ (s words : List ℕ) (byte : ℕ) (r : found.Found) (finds : found_of s
         st = stands.entry k e is
 
         by : (o : Option Entry) → entry_of s e ≡ o → TellsBy (1 ∷ k ∷ 0 ∷ e.pack.start ∷ e.stored.start ∷ e.stored.len ∷ [])
-        by none q = absurd (st.here.there q)
-        by (some x) q = find_told_lem (in_entry k x) (ap (found_of s) is ∙ rw q) _ (rw (start_told s k e st, (entry_is s e x q).stored)) refl
+        by None q = absurd (st.here.there q)
+        by (Some x) q = find_told_lem (in_entry k x) (ap (found_of s) is ∙ rw q) _ (rw (start_told s k e st, (entry_is s e x q).stored)) refl
 
-    pub found_block_lem : (k : ℕ) (e : placed.Entry) (b : Block) → r ≡ found-answer.Block k e b
+    pub found_block_lem : (k : ℕ) (e : placed.Entry) (b : Block) → r ≡ Ok (found-answer.Block k e b)
         → TellsBy (2 ∷ k ∷ b.number ∷ e.pack.start ∷ b.stored.start ∷ b.stored.len ∷ [])
     found_block_lem k e b is = by (entry_of s e) refl
       where
@@ -73,5 +74,5 @@ module _ (s words : List ℕ) (byte : ℕ) (r : found.Found) (finds : found_of s
         st = stands.block k e b is
 
         by : (o : Option Entry) → entry_of s e ≡ o → TellsBy (2 ∷ k ∷ b.number ∷ e.pack.start ∷ b.stored.start ∷ b.stored.len ∷ [])
-        by none q = absurd (st.here.there q)
-        by (some x) q = find_told_lem (in_block k x b) (ap (found_of s) is ∙ rw q) _ (rw (start_told s k e st)) refl
+        by None q = absurd (st.here.there q)
+        by (Some x) q = find_told_lem (in_block k x b) (ap (found_of s) is ∙ rw q) _ (rw (start_told s k e st)) refl

@@ -1,6 +1,6 @@
 -- Pack lists in words: six for each entry, and six for the block that holds a byte of the version.
 use Rattle.std.specs.Prelude.{ℕ, ◌+◌, ◌-◌, ◌/◌, cond, List, [], ◌∷◌, ◌++◌, leb, length, get_or}
-use Rattle.std.proofs.Math.Option.{Option, none, some}
+use Rattle.std.specs.Prelude.{Option, None, Some}
 use Rattle.slices.specs.Overwriting.{overwritten}
 use Rattle.slices.specs.declared.Place.{Place}
 use Rattle.refusals.specs.Answers.{Answer, granted, refused}
@@ -13,8 +13,8 @@ use Rattle.words.specs.Words.{answer}
 -- ---- where an entry's pack is named
 
 abbrev pub start_of : Option Place → ℕ
-start_of (some p) = p.start
-start_of none = 0
+start_of (Some p) = p.start
+start_of None = 0
 
 -- where the text under the last `p` of the entry with this number has its content. Its item goes on to the part's end, so that its length tells where it
 -- stands

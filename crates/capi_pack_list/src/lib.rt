@@ -9,7 +9,7 @@ ghost use Rattle.block_of_byte.specs.Answers.{find_in};
 ghost use Rattle.capi_pack_list.specs.PackLists.{list_words, list_answer, list_told, find_answer, find_told};
 
 use block_of_byte::Found;
-use pack_list::{NextEntry, PackList, Reading};
+use pack_list::PackList;
 
 // The entries of a list that has been read go to the front.
 fn fill(primary: &[u8], list: PackList, told: &mut [u64])
@@ -18,16 +18,16 @@ fn fill(primary: &[u8], list: PackList, told: &mut [u64])
         ≡ overwritten told.old 0 (list_words primary.now 0 (entries_in primary.now list.entries)) }
 {
     let entries = list.entries;
-    let mut i = 0;
     let mut at = entries.first;
-    while i < entries.count {
-        let NextEntry::Entry(e, count, next) = pack_list::next_entry(primary, at) else {
+    for i in 0..entries.count {
+        let Some(found) = pack_list::next_entry(primary, at) else {
             return;
         };
+        let e = found.entry;
         let pack = e.pack.start as u64;
         let source = e.source;
         let stored = e.stored;
-        let blocks = count as u64;
+        let blocks = found.blocks as u64;
         let entry = [
             pack,
             source.start,
@@ -37,8 +37,7 @@ fn fill(primary: &[u8], list: PackList, told: &mut [u64])
             blocks,
         ];
         words::store(told, 6 * i, &entry);
-        at = next;
-        i += 1;
+        at = found.next;
     }
 }
 
@@ -51,7 +50,7 @@ pub extern "C" fn vof_pack_list(primary: &[u8], told: &mut [u64]) -> u64
     ensures told { told.new ≡ list_told primary.now (pack_list primary.now) told.old }
 {
     match pack_list::read(primary) {
-        Reading::List(list) => {
+        Ok(list) => {
             let count = list.entries.count;
             if told.len() / 6 < count {
                 return words::answer(19, 0);
@@ -59,7 +58,7 @@ pub extern "C" fn vof_pack_list(primary: &[u8], told: &mut [u64]) -> u64
             fill(primary, list, told);
             words::answer(0, count)
         }
-        Reading::Refused(f) => words::answer(pack_list::number(f), 0),
+        Err(f) => words::answer(u8::from(f), 0),
     }
 }
 
@@ -71,13 +70,13 @@ pub extern "C" fn vof_find_block(primary: &[u8], byte: u64, told: &mut [u64]) ->
     ensures told { told.new ≡ find_told primary.now (find_in primary.now byte) told.old }
 {
     match block_of_byte::find(primary, byte) {
-        Found::Nowhere => words::tell(told, &[0, 0, 0, 0, 0, 0]),
-        Found::Entry(k, e) => {
+        Ok(Found::Nowhere) => words::tell(told, &[0, 0, 0, 0, 0, 0]),
+        Ok(Found::Entry(k, e)) => {
             let pack = e.pack.start as u64;
             let stored = e.stored;
             words::tell(told, &[1, k as u64, 0, pack, stored.start, stored.len])
         }
-        Found::Block(k, e, b) => {
+        Ok(Found::Block(k, e, b)) => {
             let pack = e.pack.start as u64;
             let stored = b.stored;
             words::tell(
@@ -85,6 +84,6 @@ pub extern "C" fn vof_find_block(primary: &[u8], byte: u64, told: &mut [u64]) ->
                 &[2, k as u64, b.number as u64, pack, stored.start, stored.len],
             )
         }
-        Found::Refused(f) => words::answer(pack_list::number(f), 0),
+        Err(f) => words::answer(u8::from(f), 0),
     }
 }

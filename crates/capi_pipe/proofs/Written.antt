@@ -6,6 +6,7 @@ use native.Mathlib.Omega.{arith}
 use borrow.Author.Tests.{le-leb, lt-ltb}
 use lib.ListN.{length, drop, get_or, length-append, drop_of_length-le}
 use lib.Seq.{drop-cons}
+use Rattle.std.specs.Prelude.{Some}
 use Rattle.slices.specs.Overwriting.{overwritten, written_bytes, written_within, none_overwritten}
 use Rattle.pipe.specs.States.{progress_of}
 use Rattle.pipe.specs.declared.Phase.{Phase}
@@ -40,7 +41,7 @@ module _ (s : State) (a b c d e f g h : ℕ) (front : unpacked (a ∷ b ∷ c �
   unfolding hash_in
   hash_back p = λ i. record { acc1 = s.hash.acc1; acc2 = s.hash.acc2; acc3 = s.hash.acc3; acc4 = s.hash.acc4; held = back i; count = s.hash.count }
 
-  phase_back : (q : Phase) (start : ℕ) → (phase_words q start).number < 256 → phase_in (words (phase_words q start)) ≡ q
+  phase_back : (q : Phase) (start : ℕ) → (phase_words q start).number < 256 → phase_in (words (phase_words q start)) ≡ Some q
   unfolding phase_in
   phase_back Header start small = rw (le-leb 19 (length (words (phase_words Header start))) (omega arith))
   phase_back Value start small = rw (le-leb 19 (length (words (phase_words Value start))) (omega arith))

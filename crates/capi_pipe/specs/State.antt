@@ -1,5 +1,5 @@
 -- The state of a pipe in lent words: what each of the 19 is, as include/vof.h tells it.
-use Rattle.std.specs.Prelude.{ℕ, ◌+◌, cond, ◌&&◌, List, [], ◌∷◌, ◌≡◌, eqb, leb, ltb, length, get_or, drop}
+use Rattle.std.specs.Prelude.{ℕ, ◌+◌, cond, ◌&&◌, List, [], ◌∷◌, ◌≡◌, eqb, leb, ltb, length, get_or, drop, Option, Some, None, unwrap_or}
 use Rattle.xxh64.specs.declared.State as hash
 use Rattle.pipe.specs.Taking.{Progress}
 use Rattle.pipe.specs.States.{progress_of}
@@ -23,23 +23,23 @@ word w i = get_or w i 0
 abbrev pub bytes_in : List ℕ → ℕ → List ℕ
 bytes_in w i = unpacked (word w i ∷ word w (i + 1) ∷ word w (i + 2) ∷ word w (i + 3) ∷ [])
 
--- a refusal of number 0, which no call leaves: each answers that it is malformed
+-- by the number that says which it is; a refusal has a number and a place
+abbrev pub phase_of : ℕ → ℕ → ℕ → Option Phase
+phase_of kind n place =
+    cond (eqb kind 0) (Some Header) (cond (eqb kind 1) (Some Value) (cond (eqb kind 3) (Some Ended) (cond (eqb kind 2 && ltb n 256) (Some (Refused n place)) None)))
+
+unfoldable pub phase_in : List ℕ → Option Phase
+phase_in w = cond (leb 19 (length w) && eqb (word w 0) mark) (phase_of (word w 1) (word w 4) (word w 2)) None
+
+-- where they say none, a refusal of number 0, which no call leaves: each answers that it is malformed
 abbrev pub no_phase : Phase
 no_phase = Refused 0 0
-
--- by the number that says which it is; a refusal has a number and a place
-abbrev pub phase_of : ℕ → ℕ → ℕ → Phase
-phase_of kind n place =
-    cond (eqb kind 0) Header (cond (eqb kind 1) Value (cond (eqb kind 3) Ended (cond (eqb kind 2 && ltb n 256) (Refused n place) no_phase)))
-
-unfoldable pub phase_in : List ℕ → Phase
-phase_in w = cond (leb 19 (length w) && eqb (word w 0) mark) (phase_of (word w 1) (word w 4) (word w 2)) no_phase
 
 unfoldable pub hash_in : List ℕ → hash.State
 hash_in w = record { acc1 = word w 6; acc2 = word w 7; acc3 = word w 8; acc4 = word w 9; held = bytes_in w 15; count = word w 10 }
 
 unfoldable pub state_in : List ℕ → State
-state_in w = record { phase = phase_in w; start = word w 2; records = word w 3; header = bytes_in w 11; held = word w 5; hash = hash_in w }
+state_in w = record { phase = unwrap_or (phase_in w) no_phase; start = word w 2; records = word w 3; header = bytes_in w 11; held = word w 5; hash = hash_in w }
 
 abbrev pub progress_in : List ℕ → Progress
 progress_in w = progress_of (state_in w)

@@ -1,5 +1,5 @@
 -- Which words say a state, by ranges, as include/vof.h tells it. They are those that say one that fits, and so get an answer other than 20.
-use Rattle.std.specs.Prelude.{ℕ, ◌+◌, ◌^◌, ◌≤◌, ◌<◌, Bool, cond, ◌&&◌, ◌↔◌, List, ◌≡◌, leb, take}
+use Rattle.std.specs.Prelude.{ℕ, ◌+◌, ◌^◌, ◌≤◌, ◌<◌, Bool, cond, ◌&&◌, ◌↔◌, List, ◌≡◌, leb, take, Option, Some, None, unwrap_or}
 use Rattle.std.proofs.Math.Bool.{true, false}
 use Rattle.std.proofs.Math.Path.{refl}
 use Rattle.std.proofs.Common.{arith}
@@ -63,8 +63,8 @@ module _ (w : List ℕ) where
   well_formed_fits (after_end m within) = rw (said m, le-leb (word w 3) (2 ^ 40) within)
 
   -- by the tests of a phase
-  abbrev chosen : (zeroth first third second : Bool) → Phase
-  chosen zeroth first third second = cond zeroth Header (cond first Value (cond third Ended (cond second (Refused (word w 4) (word w 2)) no_phase)))
+  abbrev chosen : (zeroth first third second : Bool) → Option Phase
+  chosen zeroth first third second = cond zeroth (Some Header) (cond first (Some Value) (cond third (Some Ended) (cond second (Some (Refused (word w 4) (word w 2))) None)))
 
   module _ (m : (leb 19 (length w) && eqb (word w 0) mark) ≡ true) where
     marked : {kind : ℕ} → eqb (word w 1) kind ≡ true → Marked w kind
@@ -73,7 +73,7 @@ module _ (w : List ℕ) where
         record { long = leb-true 19 (length w) p.0; marked = eqb-true (word w 0) mark p.1; phase = eqb-true (word w 1) kind k }
 
     by : (zeroth first third second : Bool) → eqb (word w 1) 0 ≡ zeroth → eqb (word w 1) 1 ≡ first → eqb (word w 1) 3 ≡ third
-        → (eqb (word w 1) 2 && ltb (word w 4) 256) ≡ second → fits pipe_limit (pipe.progress_in (chosen zeroth first third second) (state_in w)) ≡ true
+        → (eqb (word w 1) 2 && ltb (word w 4) 256) ≡ second → fits pipe_limit (pipe.progress_in (unwrap_or (chosen zeroth first third second) no_phase) (state_in w)) ≡ true
         → WellFormed w
     unfolding state_in hash_in hashing_of fits
     by true first third second k _ _ _ e =
@@ -95,7 +95,7 @@ module _ (w : List ℕ) where
   fits_well_formed e = go (leb 19 (length w) && eqb (word w 0) mark) refl e
     where
       go : (t : Bool) → (leb 19 (length w) && eqb (word w 0) mark) ≡ t
-          → fits pipe_limit (pipe.progress_in (cond t (phase_of (word w 1) (word w 4) (word w 2)) no_phase) (state_in w)) ≡ true → WellFormed w
+          → fits pipe_limit (pipe.progress_in (unwrap_or (cond t (phase_of (word w 1) (word w 4) (word w 2)) None) no_phase) (state_in w)) ≡ true → WellFormed w
       go true m e = by m (eqb (word w 1) 0) (eqb (word w 1) 1) (eqb (word w 1) 3) (eqb (word w 1) 2 && ltb (word w 4) 256) refl refl refl refl e
       go false m e = clash e refl
 

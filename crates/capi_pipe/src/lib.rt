@@ -78,14 +78,13 @@ pub extern "C" fn vof_pipe_end(state: &mut [u64]) -> u64
 {
     let ended = pipe::end(state::read_state(state));
     let event = ended.event;
-    let last = ended.state;
     match event {
         Event::Refusal(n, at) => {
-            state::write_state(state, last);
+            state::write_state(state, ended.state);
             words::answer(n, at)
         }
         Event::Over(records) => {
-            state::write_state(state, last);
+            state::write_state(state, ended.state);
             words::answer(0, records)
         }
         Event::Malformed => words::answer(20, 0),

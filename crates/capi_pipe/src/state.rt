@@ -5,7 +5,6 @@ ghost use Rattle.pipe.specs.States.{progress_of};
 ghost use Rattle.capi_pipe.specs.Bytes.{unpacked};
 ghost use Rattle.capi_pipe.specs.State.{bytes_in, phase_in, state_in, Says, phase_words};
 
-use endian::Number;
 use pipe::{Phase, State};
 
 // "VOF PIPE"
@@ -17,7 +16,7 @@ const MARK: u64 = 0x564F462050495045;
 fn word(words: &[u64], i: usize) -> u64
     ensures { result ≡ get_or words.now i 0 }
 {
-    if i < words.len() { words[i] } else { 0 }
+    words.get(i).copied().unwrap_or(0)
 }
 
 // The 32 bytes of the four words from at on.
@@ -33,54 +32,43 @@ fn bytes_in(words: &[u64], at: usize) -> [u8; 32]
     bytes
 }
 
-// Where words say no state, a refusal of number 0, which is malformed.
-fn phase_in(words: &[u64]) -> Phase
+// None where the words say no state.
+#[tactic(auto, unfolding(crate::specs::State::phase_in))]
+fn phase_in(words: &[u64]) -> Option<Phase>
     ensures { result ≡ phase_in words.now }
 {
     if words.len() < 19 {
-        return Phase::Refused(0, 0);
+        return None;
     }
     if words[0] != MARK {
-        return Phase::Refused(0, 0);
+        return None;
     }
-    let phase = words[1];
-    if phase == 0 {
-        return Phase::Header;
+    match words[1] {
+        0 => Some(Phase::Header),
+        1 => Some(Phase::Value),
+        3 => Some(Phase::Ended),
+        2 if words[4] < 256 => Some(Phase::Refused(words[4] as u8, words[2] as usize)),
+        _ => None,
     }
-    if phase == 1 {
-        return Phase::Value;
-    }
-    if phase == 3 {
-        return Phase::Ended;
-    }
-    let number = words[4];
-    if phase == 2 {
-        if number < 256 {
-            return Phase::Refused(number as u8, words[2] as usize);
-        }
-    }
-    Phase::Refused(0, 0)
 }
 
+// Where words say no state, its phase is a refusal of number 0, which is malformed.
 pub(crate) fn read_state(words: &[u64]) -> State
     ensures { result ≡ state_in words.now }
 {
-    let phase = phase_in(words);
-    let header = bytes_in(words, 11);
-    let stripe = bytes_in(words, 15);
     let hash = xxh64::State {
         acc1: word(words, 6),
         acc2: word(words, 7),
         acc3: word(words, 8),
         acc4: word(words, 9),
-        held: stripe,
+        held: bytes_in(words, 15),
         count: word(words, 10),
     };
     State {
-        phase,
+        phase: phase_in(words).unwrap_or(Phase::Refused(0, 0)),
         start: word(words, 2) as usize,
         records: word(words, 3) as usize,
-        header,
+        header: bytes_in(words, 11),
         held: word(words, 5) as usize,
         hash,
     }
@@ -129,10 +117,7 @@ fn number(bytes: &[u8], at: usize) -> u64
     requires { at + 8 ≤ length bytes.now }
     ensures { result ≡ big (take 8 (drop at bytes.now)) }
 {
-    match endian::read_big(bytes, at, 8) {
-        Number::Read(n) => n,
-        Number::Missing => 0,
-    }
+    endian::read_big(bytes, at, 8).unwrap_or(0)
 }
 
 // The words that hold these bytes.
@@ -152,8 +137,7 @@ pub(crate) fn write_state(words: &mut [u64], state: State)
     requires { 19 ≤ length words.old }
     ensures { Says (progress_of state) words.old words.new }
 {
-    let kind = state.phase;
-    let phase = phase_words(kind, state.start);
+    let phase = phase_words(state.phase, state.start);
     let hash = state.hash;
     let scalars = [
         MARK,
@@ -168,10 +152,8 @@ pub(crate) fn write_state(words: &mut [u64], state: State)
         hash.acc4,
         hash.count,
     ];
-    let header = state.header;
-    let stripe = hash.held;
-    let front = pack(&header);
-    let back = pack(&stripe);
+    let front = pack(&state.header);
+    let back = pack(&hash.held);
     words::store(words, 0, &scalars);
     words::store(words, 11, &front);
     words::store(words, 15, &back);

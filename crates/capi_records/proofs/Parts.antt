@@ -3,6 +3,7 @@ use Prim.Native.Nat.{ℕ, ◌+◌, ◌%◌, ◌^◌, ◌<◌}
 use mathlib.Core.Bool.{true, false}
 use mathlib.Core.List.{List}
 use mathlib.Core.Path.{◌≡◌, refl, sym, ◌∙◌}
+use Rattle.std.specs.Prelude.{Result}
 use native.Mathlib.Omega.{arith}
 use lib.Dec.{leb}
 use lib.ListN.{length}
@@ -10,13 +11,13 @@ use Rattle.slices.specs.Overwriting.{written_bytes}
 use Rattle.refusals.specs.Limit.{pack_limit}
 use Rattle.refusals.specs.Answers.{granted, refused}
 use Rattle.value.specs.Reading.{reading, answer_of}
-use Rattle.value.specs.declared.Reading.{Reading}
+use Rattle.value.specs.declared.Fault.{Fault}
 use Rattle.value.specs.declared.Told.{Told}
 use Rattle.words.specs.Words.{answer, answer_whole}
 use Rattle.capi_records.specs.Values.{told_words, value_answer, value_told}
 
 -- `r` is what the code read
-module _ (s words : List ℕ) (r : Reading) (read : answer_of r ≡ reading pack_limit s) where
+module _ (s words : List ℕ) (r : Result Told Fault) (read : answer_of r ≡ reading pack_limit s) where
   -- what is answered, and what is left
   abbrev Tells : ℕ → List ℕ → Type 0
   Tells x left = (x ≡ value_answer (reading pack_limit s) (length words)) × (left ≡ value_told (reading pack_limit s) words)

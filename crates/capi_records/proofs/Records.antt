@@ -2,7 +2,7 @@
 use Prim.Native.Nat.{ℕ, ◌+◌, ◌%◌, ◌^◌, ◌≤◌, ◌<◌}
 use mathlib.Core.Bool.{Bool, true, false}
 use mathlib.Core.List.{List}
-use mathlib.Core.Option.{some}
+use Rattle.std.specs.Prelude.{Some, Result, Ok, Err}
 use mathlib.Core.Path.{◌≡◌, refl, sym, ap, subst, ◌∙◌}
 use native.Mathlib.Omega.{arith}
 use borrow.Author.Tests.{le-leb, lt-leb, leb-true, leb-false}
@@ -13,11 +13,10 @@ use Rattle.slices.specs.Logic.{absurd_numbers}
 use Rattle.slices.specs.Places.{part_at, Inside, Within, length_part, within_inside}
 use Rattle.slices.specs.declared.Place.{Place}
 use Rattle.refusals.specs.Limit.{pack_limit}
+use Rattle.refusals.specs.declared.Unwritten.{Unwritten}
 use Rattle.identifier.specs.Composite.{composite_text}
 use Rattle.identifier.specs.Identity.{Identity, is_valid}
 use Rattle.held_identifier.specs.Writing.{wrote, refused, outcome_of, outcome as written, left, write_short, write_done}
-use Rattle.held_identifier.specs.declared.Written.{Written}
-use Rattle.held_identifier.specs.declared.Written.TheVariants.{Bytes, Inadmissible, Short}
 use Rattle.value.specs.declared.Told.{Told}
 use Rattle.primary.specs.Answers.{texts_in}
 use Rattle.records.specs.Record.{version_delete, Record, primary_in, AtPlace, there, refused_at, alone, record_at, told_from, record_from, there_from}
@@ -25,8 +24,8 @@ use Rattle.records.specs.Answers.{kind_in, contents_in, record_in, place_of, Pla
 use Rattle.records.specs.declared.Kind as declared-kind
 use Rattle.records.specs.declared.Kind.TheVariants.{Block, Version, VersionDelete, PackList}
 use Rattle.records.specs.declared.Record as declared-record
-use Rattle.records.specs.declared.AtPlace as declared-place
-use Rattle.records.specs.declared.AtPlace.TheVariants as place-answer
+use Rattle.records.specs.declared.Placed.{Placed}
+use Rattle.records.specs.declared.PlaceFault.{PlaceFault}
 use Rattle.words.specs.Words.{answer, answer_whole}
 use Rattle.capi_records.specs.Record.{outcome, kind_words, record_words, TextAt, RecordHolds, kind_told, IsRecord}
 use Rattle.capi_records.specs.declared.record.KindWords.{KindWords}
@@ -85,8 +84,8 @@ pub record TextShort (i : Identity) (bytes after : List ℕ) : Type 0 where
   pub room : length bytes < length (composite_text i)
   pub is : after ≡ bytes
 
-module _ (i : Identity) (bytes : List ℕ) (valid : is_valid i ≡ true) (w : Written) (told : outcome_of w ≡ written (some i) bytes 0) (after : List ℕ) (holds : after ≡ left (some i) bytes 0) where
-  pub text_written : (n : ℕ) → w ≡ Bytes n → TextWritten i bytes n after
+module _ (i : Identity) (bytes : List ℕ) (valid : is_valid i ≡ true) (w : Result ℕ Unwritten) (told : outcome_of w ≡ written (Some i) bytes 0) (after : List ℕ) (holds : after ≡ left (Some i) bytes 0) where
+  pub text_written : (n : ℕ) → w ≡ Ok n → TextWritten i bytes n after
   text_written n is = by (leb (length (composite_text i)) (length bytes)) refl
     where
       by : (t : Bool) → leb (length (composite_text i)) (length bytes) ≡ t → TextWritten i bytes n after
@@ -99,13 +98,12 @@ module _ (i : Identity) (bytes : List ℕ) (valid : is_valid i ≡ true) (w : Wr
           let same : wrote n ≡ refused 19 = sym (ap outcome_of is) ∙ told ∙ d.0 in
           absurd_numbers (cc)
 
-  pub text_short : ((n : ℕ) → w ≡ Bytes n → ⊥) → TextShort i bytes after
+  pub text_short : ((n : ℕ) → w ≡ Ok n → ⊥) → TextShort i bytes after
   text_short other = by (leb (length (composite_text i)) (length bytes)) refl
     where
-      never : (v : Written) (n : ℕ) → ((m : ℕ) → v ≡ Bytes m → ⊥) → outcome_of v ≡ wrote n → ⊥
-      never (Bytes m) n k e = k m refl
-      never Inadmissible n k e = absurd_numbers (cc)
-      never Short n k e = absurd_numbers (cc)
+      never : (v : Result ℕ Unwritten) (n : ℕ) → ((m : ℕ) → v ≡ Ok m → ⊥) → outcome_of v ≡ wrote n → ⊥
+      never (Ok m) n k e = k m refl
+      never (Err f) n k e = absurd_numbers (cc)
 
       by : (t : Bool) → leb (length (composite_text i)) (length bytes) ≡ t → TextShort i bytes after
       by true e =
@@ -139,10 +137,10 @@ module _ (pack : List ℕ) (p : Place) (inside : Inside pack p) where
 
 -- ---- a record that was read at a place
 
-pub is_record : (pack : List ℕ) (at : ℕ) (a : declared-place.AtPlace) → place_of pack a ≡ there_from (at + 32) (record_at pack_limit pack at) → PlaceInside pack at a
-    → (r : declared-record.Record) (value : Place) → a ≡ place-answer.Record r value → IsRecord pack at value r
-is_record pack at a told inside r value is =
-    record { is = sym (ap (place_of pack) is) ∙ told; value = inside.value r value is; places = inside.places r value is }
+pub is_record : (pack : List ℕ) (at : ℕ) (a : Result Placed PlaceFault) → place_of pack a ≡ there_from (at + 32) (record_at pack_limit pack at) → PlaceInside pack at a
+    → (p : Placed) → a ≡ Ok p → IsRecord pack at p.value p.«record»
+is_record pack at a told inside p is =
+    record { is = sym (ap (place_of pack) is) ∙ told; value = inside.value p is; places = inside.places p is }
 
 module _ (pack : List ℕ) (at : ℕ) (value : Place) (r : declared-record.Record) (h : IsRecord pack at value r) where
   abbrev read : Told → Record

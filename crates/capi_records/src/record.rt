@@ -1,6 +1,5 @@
 // One record at a place of a pack: sixteen words, and the composite text of its identifier.
 ghost use Rattle.std.specs.Prelude.{◌≡◌, ℕ};
-ghost use Rattle.std.proofs.Math.Option.{some};
 ghost use Rattle.held_identifier.specs.Writing.{outcome_of, outcome, left};
 ghost use Rattle.value.specs.declared.Told.{Told};
 ghost use Rattle.primary.specs.Answers.{texts_in};
@@ -8,9 +7,9 @@ ghost use Rattle.records.specs.Record.{told_from};
 ghost use Rattle.capi_records.specs.Record.{RecordHolds, record_words, kind_told, IsRecord};
 
 use crate::values;
-use held_identifier::Written;
 use primary::Texts;
-use records::{AtPlace, Kind, Record};
+use records::{Kind, PlaceFault, Placed, Record};
+use refusals::Unwritten;
 use slices::Place;
 
 // ---- the words
@@ -86,9 +85,9 @@ fn record_words(value: Place, r: Record, text: usize) -> [u64; 16]
 // ---- the composite text
 
 // Of the identifier whose texts stand in the pack.
-fn write_text(id: &mut [u8], pack: &[u8], t: Texts) -> Written
-    ensures answer { outcome_of result ≡ outcome (some (texts_in pack.now t)) id.old 0 }
-    ensures holds { id.new ≡ left (some (texts_in pack.now t)) id.old 0 }
+fn write_text(id: &mut [u8], pack: &[u8], t: Texts) -> Result<usize, Unwritten>
+    ensures answer { outcome_of result ≡ outcome (Some (texts_in pack.now t)) id.old 0 }
+    ensures holds { id.new ≡ left (Some (texts_in pack.now t)) id.old 0 }
 {
     held_identifier::write_parts(
         id,
@@ -101,18 +100,19 @@ fn write_text(id: &mut [u8], pack: &[u8], t: Texts) -> Written
 
 // ---- the record
 
-// A record that was read, with its value at this place, where there is room for all it tells.
-fn tell(pack: &[u8], value: Place, r: Record, told: &mut [u64], id: &mut [u8]) -> u64
-    ensures { (at : ℕ) → IsRecord pack.now at value r
+// A record that was read, where there is room for all it tells.
+fn tell(pack: &[u8], placed: Placed, told: &mut [u64], id: &mut [u8]) -> u64
+    ensures { (at : ℕ) → IsRecord pack.now at placed.value placed.«record»
         → RecordHolds pack.now at told.old id.old result told.new id.new }
 {
+    let r = placed.record;
     if told.len() < 16 {
         return words::answer(19, 0);
     }
-    let Written::Bytes(n) = write_text(id, pack, r.identifier) else {
+    let Ok(n) = write_text(id, pack, r.identifier) else {
         return words::answer(19, 0);
     };
-    words::store(told, 0, &record_words(value, r, n));
+    words::store(told, 0, &record_words(placed.value, r, n));
     words::answer(0, 0)
 }
 
@@ -124,10 +124,9 @@ pub extern "C" fn vof_record(pack: &[u8], at: usize, told: &mut [u64], id: &mut 
     ensures { RecordHolds pack.now at told.old id.old result told.new id.new }
 {
     match records::read_at(pack, at) {
-        AtPlace::Record { record, value } => tell(pack, value, record, told, id),
-        AtPlace::Outside => words::answer(20, 0),
-        AtPlace::TooLong => words::answer(1, 0),
-        AtPlace::Fault(f, place) => words::answer(tlv::number(f), place),
-        AtPlace::Refused(f) => words::answer(records::number(f), 0),
+        Ok(placed) => tell(pack, placed, told, id),
+        Err(PlaceFault::Outside) => words::answer(20, 0),
+        Err(PlaceFault::Pack(f)) => words::answer(u8::from(f), f.place()),
+        Err(PlaceFault::Record(f)) => words::answer(u8::from(f), 0),
     }
 }

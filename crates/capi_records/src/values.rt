@@ -4,7 +4,7 @@ ghost use Rattle.refusals.specs.Limit.{pack_limit};
 ghost use Rattle.value.specs.Reading.{reading};
 ghost use Rattle.capi_records.specs.Values.{told_words, value_answer, value_told};
 
-use value::{Reading, Told};
+use value::Told;
 
 pub(crate) fn told_words(t: Told) -> [u64; 10]
     ensures { result ≡ told_words t }
@@ -33,12 +33,12 @@ pub extern "C" fn vof_value(value: &[u8], told: &mut [u64]) -> u64
     ensures told { told.new ≡ value_told (reading pack_limit value.now) told.old }
 {
     match value::read(value) {
-        Reading::Told(t) => {
+        Ok(t) => {
             if !words::store(told, 0, &told_words(t)) {
                 return words::answer(19, 0);
             }
             words::answer(0, 0)
         }
-        Reading::Refused(f) => words::answer(value::number(f), 0),
+        Err(f) => words::answer(u8::from(f), 0),
     }
 }

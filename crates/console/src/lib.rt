@@ -4,9 +4,12 @@
 
 ghost use Rattle.console.specs.Put.{PutWithRoom, Next};
 ghost use Rattle.console.specs.Text.{decimal, refusal_line, refusal_alone};
-ghost use Rattle.console.specs.Inputs.{Within, Fits};
+ghost use Rattle.std.specs.Prelude.{◌≡◌, ◌≤◌, length, IfOk};
+ghost use Rattle.std.specs.Io.{ReadsAtMost};
+ghost use Rattle.std.specs.Int.{w64, from_be_bytes};
+ghost use Rattle.console.specs.declared.Unread.TheVariants.{Failed};
 
-use std::io::Read as _;
+use std::io::{Input, Read as _};
 
 // ---- text in a buffer
 
@@ -58,63 +61,77 @@ pub fn put_refusal_alone(out: &mut [u8], number: u8) -> usize
 
 // ---- standard input
 
-#[derive(Drop)]
-pub enum Read {
-    // So many bytes, at the front of the buffer; none where the input has ended.
-    Bytes(usize),
-    Failed,
-}
-
-// Reads once: what there is by now, as far as the buffer holds it.
-pub fn read_part(rt: &impl std::io::Input, buffer: &mut [u8]) -> Read
-    ensures { Within result buffer.new }
+// Reads once: what there is by now, as far as the buffer holds it; nothing where the input has ended.
+pub fn read_part(rt: &impl Input, buffer: &mut [u8]) -> std::io::Result<usize>
+    ensures { ReadsAtMost result buffer.new }
 {
-    match rt.reader().read(buffer) {
-        Ok(n) => Read::Bytes(n),
-        Err(_) => Read::Failed,
-    }
+    rt.reader().read(buffer)
 }
 
 // Reads until the buffer is full or the input ends: a read may give fewer bytes than there are.
-fn fill(rt: &impl std::io::Input, buffer: &mut [u8]) -> Read
-    ensures { Within result buffer.new }
+fn fill(rt: &impl Input, buffer: &mut [u8]) -> std::io::Result<usize>
+    ensures { IfOk result (λ n. n ≤ length buffer.new) }
 {
-    let mut n: usize = 0;
+    let mut n = 0;
     while n < buffer.len() {
-        let Read::Bytes(more) = read_part(rt, &mut buffer[n..]) else {
-            return Read::Failed;
-        };
+        let more = read_part(rt, &mut buffer[n..])?;
         if more == 0 {
-            return Read::Bytes(n);
+            break;
         }
         n += more;
     }
-    Read::Bytes(n)
+    Ok(n)
 }
 
-#[derive(Drop)]
-pub enum Input {
-    // All that there is: so many bytes, at the front of the buffer.
-    Bytes(usize),
-    // More than the buffer holds.
+// Why standard input was not read whole.
+#[derive(Clone, Copy)]
+pub enum Unread {
+    // There is more than the buffer holds.
     TooLong,
     Failed,
 }
 
-// Reads all of standard input, where it is no longer than the buffer.
-pub fn read_input(rt: &impl std::io::Input, buffer: &mut [u8]) -> Input
-    ensures { Fits result buffer.new }
-{
-    let Read::Bytes(n) = fill(rt, buffer) else {
-        return Input::Failed;
-    };
-    let mut next = [0u8; 1];
-    let Read::Bytes(more) = fill(rt, &mut next) else {
-        return Input::Failed;
-    };
-    if more == 0 {
-        Input::Bytes(n)
-    } else {
-        Input::TooLong
+impl From<std::io::Error> for Unread {
+    ghost from_gives = { λ _ u. u ≡ Failed };
+
+    fn from(_e: std::io::Error) -> Unread {
+        Unread::Failed
     }
+}
+
+// Reads all of standard input, where it is no longer than the buffer, and answers how many bytes it has.
+pub fn read_input(rt: &impl Input, buffer: &mut [u8]) -> Result<usize, Unread>
+    ensures { IfOk result (λ n. n ≤ length buffer.new) }
+{
+    let n = fill(rt, buffer)?;
+    let mut next = [0u8; 1];
+    if fill(rt, &mut next)? == 0 {
+        Ok(n)
+    } else {
+        Err(Unread::TooLong)
+    }
+}
+
+// ---- numbers and fields of standard input, for programs that run vectors
+
+// Reads the next 8 bytes, and answers the number that they are. Where the input ends before, the bytes that
+// it lacks stay as they were lent.
+pub fn read_number(rt: &impl Input, bytes: &mut [u8; 8]) -> usize
+    ensures { result ≡ from_be_bytes w64 bytes.new }
+{
+    let _ = rt.reader().read_exact(bytes);
+    usize::from_be_bytes(*bytes)
+}
+
+// Reads a field, which is bytes with their number before them, to the front of a buffer, if it holds it,
+// and answers the field's length.
+pub fn read_field(rt: &impl Input, buffer: &mut [u8]) -> usize
+    ensures { result ≤ length buffer.new }
+{
+    let n = read_number(rt, &mut [0; 8]);
+    if buffer.len() < n {
+        return 0;
+    }
+    let _ = rt.reader().read_exact(&mut buffer[..n]);
+    n
 }

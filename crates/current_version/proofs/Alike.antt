@@ -1,7 +1,7 @@
 -- Two packs whose records are alike one by one are looked up alike. What alike means of refusals' numbers, of places and of values is left open here.
 use Rattle.std.specs.Prelude.{ℕ, Bool, cond, List, map, ◌≡◌}
 use Rattle.std.proofs.Math.Bool.{true, false}
-use Rattle.std.proofs.Math.Option.{Option, none, some}
+use Rattle.std.specs.Prelude.{Option, None, Some}
 use Rattle.std.proofs.Math.Path.{refl}
 use Rattle.pack.specs.Reading.{whole, reading}
 use Rattle.msgpack.specs.Views.{Both, both, neither, Each, no_more, and_each}
@@ -38,7 +38,7 @@ module _ (Number Place : ℕ → ℕ → Type 0) (Bytes : List ℕ → List ℕ 
       by (less v.identifier.ulid t.identifier.ulid) (λ i. less (x.identifier i).ulid (y.identifier i).ulid)
     where
       by : (later : Bool) → later ≡ less w.identifier.ulid u.identifier.ulid
-          → Both (AlikeVersions Place Bytes) (cond later (some t) (some v)) (cond (less w.identifier.ulid u.identifier.ulid) (some u) (some w))
+          → Both (AlikeVersions Place Bytes) (cond later (Some t) (Some v)) (cond (less w.identifier.ulid u.identifier.ulid) (Some u) (Some w))
       by true e = rw (← e) (both y)
       by false e = rw (← e) (both x)
 
@@ -50,8 +50,8 @@ module _ (Number Place : ℕ → ℕ → Type 0) (Bytes : List ℕ → List ℕ 
     filtered_alike {p} {q} x = by x.role
       where
         told : (i : Identity) (f passed : Bool)
-            → Both (AlikeVersions Place Bytes) (cond passed (version_by p.start p.value (version i f)) none)
-            (cond passed (version_by q.start q.value (version i f)) none)
+            → Both (AlikeVersions Place Bytes) (cond passed (version_by p.start p.value (version i f)) None)
+            (cond passed (version_by q.start q.value (version i f)) None)
         told i f true = both (record { identifier = refl; delete_flag = refl; value = x.value; start = x.start })
         told i f false = neither
 

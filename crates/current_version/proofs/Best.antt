@@ -4,7 +4,7 @@ use mathlib.Core.List.Memᴰ
 use mathlib.Core.List.{List, [], ◌∷◌, ◌++◌, Memᴰ}
 use Rattle.std.proofs.Common.{inl, inr, sym, subst, ◌∙◌}
 use Rattle.std.proofs.Math.Logic.{⊎_elim}
-use Rattle.std.proofs.Math.Option.{Option, none, some}
+use Rattle.std.specs.Prelude.{Option, None, Some}
 use Rattle.std.proofs.Math.Path.{refl, ap}
 use Rattle.slices.specs.Logic.{either}
 use Rattle.identifier.specs.Texts.{less}
@@ -29,26 +29,26 @@ best_step test all sofar p ps e = e ∙ sym (better_associative sofar (filtered 
 -- ---- where it stands, and how it compares
 
 -- the later of two wins, and its ULID is greater, or the earlier wins, and the later's is not
-better_two : (v w : Version) → ((less (ulid_of v) (ulid_of w) ≡ true) × (better (some v) (some w) ≡ some w))
-    ⊎ ((less (ulid_of v) (ulid_of w) ≡ false) × (better (some v) (some w) ≡ some v))
+better_two : (v w : Version) → ((less (ulid_of v) (ulid_of w) ≡ true) × (better (Some v) (Some w) ≡ Some w))
+    ⊎ ((less (ulid_of v) (ulid_of w) ≡ false) × (better (Some v) (Some w) ≡ Some v))
 unfolding better
 better_two v w = ⊎_elim (λ t. inl (t, rw t)) (λ t. inr (t, rw t)) (either (less (ulid_of v) (ulid_of w)))
 
 module _ (test : Identity → Bool) where
-  passed : (p : Placed) (v : Version) → Passes test (version_of p) v → filtered test (version_of p) ≡ some v
+  passed : (p : Placed) (v : Version) → Passes test (version_of p) v → filtered test (version_of p) ≡ Some v
   passed p v o = some_filtered test (version_of p) v o.is o.test_passed
 
-  pub best_none : (ps : List Placed) → best test ps ≡ none → (p : Placed) (v : Version) → Memᴰ p ps → Passes test (version_of p) v → ⊥
+  pub best_none : (ps : List Placed) → best test ps ≡ None → (p : Placed) (v : Version) → Memᴰ p ps → Passes test (version_of p) v → ⊥
   unfolding best better
   best_none [] e p v m o = absurd (Memᴰ.not-nil m)
   best_none (q ∷ ps) e p v m o = go (filtered test (version_of q)) refl (best test ps) refl e (λ h n. best_none ps h p v n o) (Memᴰ.cases_cons m)
     where
-      go : (a : Option Version) → filtered test (version_of q) ≡ a → (b : Option Version) → best test ps ≡ b → better a b ≡ none
-          → (best test ps ≡ none → Memᴰ p ps → ⊥) → (p ≡ q) ⊎ Memᴰ p ps → ⊥
-      go none f b g e rest (inl h) = no_version (sym f ∙ ap (λ (x : Placed). filtered test (version_of x)) (sym h) ∙ passed p v o)
-      go none f b g e rest (inr n) = rest (g ∙ e) n
-      go (some w) f none g e rest x = no_version (sym e)
-      go (some w) f (some u) g e rest x = ⊎_elim (λ t. no_version (sym e ∙ t.1)) (λ t. no_version (sym e ∙ t.1)) (better_two w u)
+      go : (a : Option Version) → filtered test (version_of q) ≡ a → (b : Option Version) → best test ps ≡ b → better a b ≡ None
+          → (best test ps ≡ None → Memᴰ p ps → ⊥) → (p ≡ q) ⊎ Memᴰ p ps → ⊥
+      go None f b g e rest (inl h) = no_version (sym f ∙ ap (λ (x : Placed). filtered test (version_of x)) (sym h) ∙ passed p v o)
+      go None f b g e rest (inr n) = rest (g ∙ e) n
+      go (Some w) f None g e rest x = no_version (sym e)
+      go (Some w) f (Some u) g e rest x = ⊎_elim (λ t. no_version (sym e ∙ t.1)) (λ t. no_version (sym e ∙ t.1)) (better_two w u)
 
   -- a record in front that offers something smaller changes nothing
   best_behind : (q : Placed) {ps : List Placed} {v : Version}
@@ -64,7 +64,7 @@ module _ (test : Identity → Bool) where
         later = c.later;
       }
 
-  pub best_found : (ps : List Placed) (v : Version) → best test ps ≡ some v → Best test ps v
+  pub best_found : (ps : List Placed) (v : Version) → best test ps ≡ Some v → Best test ps v
   unfolding best better
   best_found [] v e = no_version e
   best_found (q ∷ ps) v e = go (filtered test (version_of q)) refl (best test ps) refl e (λ w h. best_found ps w h)
@@ -82,11 +82,11 @@ module _ (test : Identity → Bool) where
             later = greatest;
           }
 
-      go : (a : Option Version) → filtered test (version_of q) ≡ a → (b : Option Version) → best test ps ≡ b → better a b ≡ some v
-          → ((w : Version) → best test ps ≡ some w → Best test ps w) → Best test (q ∷ ps) v
-      go none f b g e rest = best_behind q (λ w h. no_version (sym f ∙ passed q w h)) (rest v (g ∙ e))
-      go (some w) f none g e rest = first (filtered_some test (version_of q) v (f ∙ e)) (λ p u m h. absurd (best_none ps g p u m h))
-      go (some w) f (some u) g e rest =
+      go : (a : Option Version) → filtered test (version_of q) ≡ a → (b : Option Version) → best test ps ≡ b → better a b ≡ Some v
+          → ((w : Version) → best test ps ≡ Some w → Best test ps w) → Best test (q ∷ ps) v
+      go None f b g e rest = best_behind q (λ w h. no_version (sym f ∙ passed q w h)) (rest v (g ∙ e))
+      go (Some w) f None g e rest = first (filtered_some test (version_of q) v (f ∙ e)) (λ p u m h. absurd (best_none ps g p u m h))
+      go (Some w) f (Some u) g e rest =
           ⊎_elim
           (λ t.
           let is : u ≡ v = same_version (sym t.1 ∙ e) in
@@ -97,31 +97,31 @@ module _ (test : Identity → Bool) where
           (λ p x m h. rw (← is) (not_less_transitive (ulid_of w) (ulid_of u) (ulid_of x) t.0 (best_greatest test (rest u g) p x m h))))
           (better_two w u)
 
-  pub found_best : {ps : List Placed} {v : Version} → Best test ps v → best test ps ≡ some v
+  pub found_best : {ps : List Placed} {v : Version} → Best test ps v → best test ps ≡ Some v
   unfolding best better
   found_best {v} c =
       ap (best test) c.cut
       ∙ best_append test c.front (c.at ∷ c.back)
       ∙ rw (passed c.at v c.offers, after (best test c.back) refl) (ahead (best test c.front) refl)
     where
-      after : (a : Option Version) → best test c.back ≡ a → better (some v) (best test c.back) ≡ some v
-      after none q = rw q
-      after (some w) q =
+      after : (a : Option Version) → best test c.back ≡ a → better (Some v) (best test c.back) ≡ Some v
+      after None q = rw q
+      after (Some w) q =
           let d = best_found c.back w q in
           rw (q, c.later d.at w (best_member test d) d.offers)
 
-      ahead : (a : Option Version) → best test c.front ≡ a → better (best test c.front) (some v) ≡ some v
-      ahead none q = rw q
-      ahead (some w) q =
+      ahead : (a : Option Version) → best test c.front ≡ a → better (best test c.front) (Some v) ≡ Some v
+      ahead None q = rw q
+      ahead (Some w) q =
           let d = best_found c.front w q in
           rw (q, c.earlier d.at w (best_member test d) d.offers)
 
   -- none exactly where no version passes
-  pub none_best : (ps : List Placed) → ((p : Placed) (v : Version) → Memᴰ p ps → Passes test (version_of p) v → ⊥) → best test ps ≡ none
+  pub none_best : (ps : List Placed) → ((p : Placed) (v : Version) → Memᴰ p ps → Passes test (version_of p) v → ⊥) → best test ps ≡ None
   none_best ps h = go (best test ps) refl
     where
-      go : (a : Option Version) → best test ps ≡ a → best test ps ≡ none
-      go none e = e
-      go (some v) e =
+      go : (a : Option Version) → best test ps ≡ a → best test ps ≡ None
+      go None e = e
+      go (Some v) e =
           let c = best_found ps v e in
           absurd (h c.at v (best_member test c) c.offers)

@@ -5,7 +5,7 @@ use Rattle.std.proofs.Common.{true≢false, sym, ap, ◌∙◌}
 use mathlib.Core.List.Memᴰ
 use mathlib.Core.List.{List, [], ◌∷◌, ◌++◌, map}
 use Rattle.std.proofs.Math.Logic.{⊎_elim}
-use Rattle.std.proofs.Math.Option.{none, some}
+use Rattle.std.specs.Prelude.{None, Some}
 use Rattle.std.proofs.Math.Path.{refl}
 use Rattle.std.proofs.Math.ListN.{length}
 use Rattle.refusals.specs.Answers.{is_result, granted}
@@ -78,7 +78,7 @@ module _ (limit : ℕ) (i : Identity) where
 
   -- where the test shuts the versions of i out, it finds what stands without them
   module _ (test test' : Identity → Bool) (out : test i ≡ false) (others : (j : Identity) → same_identity i j ≡ false → test j ≡ test' j) where
-    filtered_out : (value : List ℕ) (r : Role) → is_version i r ≡ true → filtered test (version_by 0 value r) ≡ none
+    filtered_out : (value : List ℕ) (r : Role) → is_version i r ≡ true → filtered test (version_by 0 value r) ≡ None
     unfolding filtered is_version
     filtered_out value (version j f) e = rw (← (same_identity_true i j e), out)
     filtered_out value (deletion j) e = refl
@@ -116,7 +116,7 @@ module _ (limit : ℕ) (i : Identity) where
       test' = is_live (map (unplaced limit) (taken_out limit i rs)) bucket object
 
       out : test i ≡ false
-      out = rw (deleted_with rs d i e, same_identity_refl i, or-true (is_deleted (map (unplaced limit) rs) i)) (and-false (has_name (some i) bucket object))
+      out = rw (deleted_with rs d i e, same_identity_refl i, or-true (is_deleted (map (unplaced limit) rs) i)) (and-false (has_name (Some i) bucket object))
 
       others : (j : Identity) → same_identity i j ≡ false → test j ≡ test' j
       others j n = rw (deleted_with rs d j e, n, or-false (is_deleted (map (unplaced limit) rs) j), deleted_without rs j)

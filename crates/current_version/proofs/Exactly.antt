@@ -5,7 +5,7 @@ use Rattle.std.proofs.Common.{subst, ◌∙◌}
 use mathlib.Core.List.Memᴰ
 use mathlib.Core.List.{List, ◌∷◌, Memᴰ}
 use Rattle.std.proofs.Math.Logic.{inl, inr, ⊎_elim}
-use Rattle.std.proofs.Math.Option.{Option, none, some}
+use Rattle.std.specs.Prelude.{Option, None, Some}
 use Rattle.std.proofs.Math.Path.{refl, sym, ap}
 use Rattle.slices.specs.Logic.{either, clash}
 use Rattle.pack.specs.Reading.{Ending, whole, refused, reading}
@@ -19,7 +19,7 @@ use Rattle.current_version.specs.Exactly.{Live, IsCurrent, same_name, live_passe
     -- ---- the definition finds exactly that version
 
 module _ (ps : List Placed) (bucket object : List ℕ) where
-  pub current_is : (v : Version) → current ps bucket object ≡ some v → IsCurrent ps bucket object v
+  pub current_is : (v : Version) → current ps bucket object ≡ Some v → IsCurrent ps bucket object v
   unfolding current
   current_is v e =
       let c = best_found (is_live ps bucket object) ps v e in
@@ -38,7 +38,7 @@ module _ (ps : List Placed) (bucket object : List ℕ) where
             (ap (λ (i : Identity). less i.ulid (ulid_of v)) same ∙ less_irreflexive (ulid_of v));
       }
 
-  pub is_current : (v : Version) → IsCurrent ps bucket object v → current ps bucket object ≡ some v
+  pub is_current : (v : Version) → IsCurrent ps bucket object v → current ps bucket object ≡ Some v
   unfolding current
   is_current v c =
       found_best (is_live ps bucket object)
@@ -62,11 +62,11 @@ module _ (ps : List Placed) (bucket object : List ℕ) where
           absurd (c.earliest p w m l.tells same))
           (either (less (ulid_of w) (ulid_of v)))
 
-  pub current_exactly : (v : Version) → current ps bucket object ≡ some v ↔ IsCurrent ps bucket object v
+  pub current_exactly : (v : Version) → current ps bucket object ≡ Some v ↔ IsCurrent ps bucket object v
   current_exactly v = (current_is v, is_current v)
 
   -- and none exactly where no record is live
-  pub none_exactly : current ps bucket object ≡ none ↔ ((p : Placed) (v : Version) → Memᴰ p ps → Live ps bucket object p v → ⊥)
+  pub none_exactly : current ps bucket object ≡ None ↔ ((p : Placed) (v : Version) → Memᴰ p ps → Live ps bucket object p v → ⊥)
   unfolding current
   none_exactly = (
     λ e p v m l. best_none (is_live ps bucket object) ps e p v m (live_passes ps bucket object p v l),
@@ -82,8 +82,8 @@ module _ (limit : ℕ) (s bucket object : List ℕ) where
     where
       go : (t : Bool) → is_name bucket object ≡ t → (e : Ending) → (reading limit s).ending ≡ e → (f : Ending) → Ends (ps limit s bucket object) f
           → (c : Option Version) → current (ps limit s bucket object) bucket object ≡ c → Exactly limit s bucket object (cond t (unless_refused e (unless_refused f (answer_of c))) (alone 20))
-      go true n whole a whole r none c = (record { name = n; accepted = a; readable = r }, (none_exactly (ps limit s bucket object) bucket object).0 c)
-      go true n whole a whole r (some v) c = (record { name = n; accepted = a; readable = r }, current_is (ps limit s bucket object) bucket object v c)
+      go true n whole a whole r None c = (record { name = n; accepted = a; readable = r }, (none_exactly (ps limit s bucket object) bucket object).0 c)
+      go true n whole a whole r (Some v) c = (record { name = n; accepted = a; readable = r }, current_is (ps limit s bucket object) bucket object v c)
       go true n whole a (refused m place) r d c = (n, inr (a, r))
       go true n (refused m place) a f r d c = (n, inl a)
       go false n e a f r d c = (n, refl)

@@ -3,7 +3,7 @@ use Rattle.std.specs.Prelude.{ℕ, suc, ◌<◌, Bool, true, false, cond, ◌⊎
 use mathlib.Core.List.Memᴰ
 use mathlib.Core.List.{List, [], ◌∷◌, ◌++◌, map, Memᴰ}
 use Rattle.std.proofs.Common.{inl, inr, ⊎_elim, sym, ap, subst, ◌∙◌, arith}
-use Rattle.std.proofs.Math.Option.{Option, none, some}
+use Rattle.std.specs.Prelude.{Option, None, Some}
 use Rattle.slices.specs.Bytes.{same_bytes, same_bytes_refl, same_bytes_equal}
 use Rattle.slices.specs.Logic.{clash}
 use Rattle.tlv.specs.Layout.{Record, Fits, layout, layouts}
@@ -81,14 +81,14 @@ module _ (ps qs : List Placed) (there : (p : Placed) → Memᴰ p ps → Memᴰ 
           same_version (sym k.tells ∙ ap version_of one ∙ l.tells)
 
       go : (a : Option Version) → current ps bucket object ≡ a → (b : Option Version) → current qs bucket object ≡ b → a ≡ b
-      go none p none q = refl
-      go none p (some w) q =
+      go None p None q = refl
+      go None p (Some w) q =
           let d = current_is qs bucket object w q in
           absurd ((none_exactly ps bucket object).0 p d.at w (back d.at (current_member d)) (live_back d.at w d.live))
-      go (some v) p none q =
+      go (Some v) p None q =
           let c = current_is ps bucket object v p in
           absurd ((none_exactly qs bucket object).0 q c.at v (there c.at (current_member c)) (live_there c.at v c.live))
-      go (some v) p (some w) q = ap some (both_found v w (current_is ps bucket object v p) (current_is qs bucket object w q))
+      go (Some v) p (Some w) q = ap Some (both_found v w (current_is ps bucket object v p) (current_is qs bucket object w q))
 
 -- ---- the theorem
 

@@ -1,7 +1,7 @@
 -- A pack as a list of records: the lookup's answer depends on their tags and values and on their order; where they stand shows only in the place told.
 use Rattle.std.specs.Prelude.{ℕ, ◌+◌, Bool, true, false, cond, ◌↔◌, ◌≡◌, refl, length}
 use mathlib.Core.List.{List, [], ◌∷◌, map}
-use Rattle.std.proofs.Math.Option.{Option, none, some}
+use Rattle.std.specs.Prelude.{Option, None, Some}
 use Rattle.std.proofs.Common.{sym, ap, ◌∙◌}
 use Rattle.slices.specs.Bytes.{AllBytes}
 use Rattle.tlv.specs.Layout.{Record, layout, layouts}
@@ -21,11 +21,11 @@ module _ (limit : ℕ) (s : List ℕ) where
 
 forget_better : (a b : Option Version) → forget (better a b) ≡ better (forget a) (forget b)
 unfolding better
-forget_better none b = refl
-forget_better (some v) none = refl
-forget_better (some v) (some w) = go (less (ulid_of v) (ulid_of w))
+forget_better None b = refl
+forget_better (Some v) None = refl
+forget_better (Some v) (Some w) = go (less (ulid_of v) (ulid_of w))
   where
-    go : (t : Bool) → forget (cond t (some w) (some v)) ≡ cond t (forget (some w)) (forget (some v))
+    go : (t : Bool) → forget (cond t (Some w) (Some v)) ≡ cond t (forget (Some w)) (forget (Some v))
     go true = refl
     go false = refl
 
@@ -37,7 +37,7 @@ forget_filtered test at value (version i f) = go (test i)
     told : ℕ → Option Version
     told n = version_by n value (version i f)
 
-    go : (t : Bool) → forget (cond t (told at) none) ≡ cond t (told 0) none
+    go : (t : Bool) → forget (cond t (told at) None) ≡ cond t (told 0) None
     go true = refl
     go false = refl
 forget_filtered test at value (deletion i) = refl
@@ -65,10 +65,10 @@ forget_current limit at rs bucket object =
     ∙ forget_best (is_live (map (unplaced limit) rs) bucket object) limit at rs
 
 same_forgotten : (a b : Option Version) → forget a ≡ forget b → SameAnswer (answer_of a) (answer_of b)
-same_forgotten none none e = tt
-same_forgotten none (some w) e = no_version e
-same_forgotten (some v) none e = no_version (sym e)
-same_forgotten (some v) (some w) e =
+same_forgotten None None e = tt
+same_forgotten None (Some w) e = no_version e
+same_forgotten (Some v) None e = no_version (sym e)
+same_forgotten (Some v) (Some w) e =
     let h = same_version e in
     record {
       identifier = cc (ap (λ (x : Version). x.identifier) h);

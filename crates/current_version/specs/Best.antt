@@ -4,7 +4,7 @@ use mathlib.Core.List.Memᴰ
 use mathlib.Core.List.{List, [], ◌∷◌, ◌++◌, Memᴰ}
 use Rattle.std.proofs.Common.{inl, inr, sym, ◌∙◌}
 use Rattle.std.proofs.Math.Logic.{⊎_elim}
-use Rattle.std.proofs.Math.Option.{Option, none, some}
+use Rattle.std.specs.Prelude.{Option, None, Some}
 use Rattle.std.proofs.Math.Path.{refl, ap}
 use Rattle.slices.specs.Logic.{absurd_numbers, either}
 use Rattle.identifier.specs.Texts.{less}
@@ -17,26 +17,26 @@ use Rattle.current_version.specs.Current.{Placed, Version, version_of, filtered,
 abbrev pub ulid_of : Version → List ℕ
 ulid_of v = v.identifier.ulid
 
-pub no_version : {C : Type 0} {v : Version} → none ≡ some v → C
+pub no_version : {C : Type 0} {v : Version} → None ≡ Some v → C
 no_version e = absurd_numbers (cc)
 
-pub same_version : {v w : Version} → some v ≡ some w → v ≡ w
+pub same_version : {v w : Version} → Some v ≡ Some w → v ≡ w
 same_version e = cc
 
-better_none : (a : Option Version) → better a none ≡ a
+better_none : (a : Option Version) → better a None ≡ a
 unfolding better
-better_none none = refl
-better_none (some v) = refl
+better_none None = refl
+better_none (Some v) = refl
 
 pub better_associative : (a b c : Option Version) → better (better a b) c ≡ better a (better b c)
 unfolding better
-better_associative none b c = refl
-better_associative (some u) none c = refl
-better_associative (some u) (some v) none = better_none (cond (less (ulid_of u) (ulid_of v)) (some v) (some u))
-better_associative (some u) (some v) (some w) = go (either (less (ulid_of u) (ulid_of v))) (either (less (ulid_of v) (ulid_of w)))
+better_associative None b c = refl
+better_associative (Some u) None c = refl
+better_associative (Some u) (Some v) None = better_none (cond (less (ulid_of u) (ulid_of v)) (Some v) (Some u))
+better_associative (Some u) (Some v) (Some w) = go (either (less (ulid_of u) (ulid_of v))) (either (less (ulid_of v) (ulid_of w)))
   where
     go : (less (ulid_of u) (ulid_of v) ≡ true) ⊎ (less (ulid_of u) (ulid_of v) ≡ false) → (less (ulid_of v) (ulid_of w) ≡ true) ⊎ (less (ulid_of v) (ulid_of w) ≡ false)
-        → better (cond (less (ulid_of u) (ulid_of v)) (some v) (some u)) (some w) ≡ better (some u) (cond (less (ulid_of v) (ulid_of w)) (some w) (some v))
+        → better (cond (less (ulid_of u) (ulid_of v)) (Some v) (Some u)) (Some w) ≡ better (Some u) (cond (less (ulid_of v) (ulid_of w)) (Some w) (Some v))
     go (inl p) (inl q) = rw (p, q, less_transitive (ulid_of u) (ulid_of v) (ulid_of w) p q)
     go (inl p) (inr q) = simp (p, q)
     go (inr p) (inl q) = rw (p, q)
@@ -45,33 +45,33 @@ better_associative (some u) (some v) (some w) = go (either (less (ulid_of u) (ul
 -- ---- a version that passes the test
 
 pub record Passes (test : Identity → Bool) (a : Option Version) (v : Version) : Type 0 where
-  pub is : a ≡ some v
+  pub is : a ≡ Some v
   pub test_passed : test v.identifier ≡ true
 
-pub filtered_some : (test : Identity → Bool) (a : Option Version) (v : Version) → filtered test a ≡ some v → Passes test a v
+pub filtered_some : (test : Identity → Bool) (a : Option Version) (v : Version) → filtered test a ≡ Some v → Passes test a v
 unfolding filtered
-filtered_some test none v e = no_version e
-filtered_some test (some w) v e = go (test w.identifier) refl e
+filtered_some test None v e = no_version e
+filtered_some test (Some w) v e = go (test w.identifier) refl e
   where
-    go : (t : Bool) → test w.identifier ≡ t → cond t (some w) none ≡ some v → Passes test (some w) v
+    go : (t : Bool) → test w.identifier ≡ t → cond t (Some w) None ≡ Some v → Passes test (Some w) v
     go true p f = record { is = f; test_passed = ap (λ (x : Version). test x.identifier) (sym (same_version f)) ∙ p }
     go false p f = no_version f
 
-pub some_filtered : (test : Identity → Bool) (a : Option Version) (v : Version) → a ≡ some v → test v.identifier ≡ true → filtered test a ≡ some v
+pub some_filtered : (test : Identity → Bool) (a : Option Version) (v : Version) → a ≡ Some v → test v.identifier ≡ true → filtered test a ≡ Some v
 unfolding filtered
 some_filtered test a v e p = rw (e, p)
 
 filtered_same : (test test' : Identity → Bool) (a : Option Version)
-    → ((v : Version) → a ≡ some v → test v.identifier ≡ test' v.identifier) → filtered test a ≡ filtered test' a
+    → ((v : Version) → a ≡ Some v → test v.identifier ≡ test' v.identifier) → filtered test a ≡ filtered test' a
 unfolding filtered
-filtered_same test test' none h = refl
-filtered_same test test' (some v) h = rw (h v refl)
+filtered_same test test' None h = refl
+filtered_same test test' (Some v) h = rw (h v refl)
 
 -- ---- the best of a list
 
 -- tests that agree on the versions there find the same
 pub best_same : (test test' : Identity → Bool) (ps : List Placed)
-    → ((p : Placed) (v : Version) → Memᴰ p ps → version_of p ≡ some v → test v.identifier ≡ test' v.identifier) → best test ps ≡ best test' ps
+    → ((p : Placed) (v : Version) → Memᴰ p ps → version_of p ≡ Some v → test v.identifier ≡ test' v.identifier) → best test ps ≡ best test' ps
 unfolding best
 best_same test test' [] h = refl
 best_same test test' (p ∷ ps) h =

@@ -1,6 +1,6 @@
 -- The current version of an object in a pack (document 01, "The current version").
 use Rattle.std.specs.Prelude.{ℕ, Bool, false, cond, not, ◌&&◌, ◌||◌, List, [], ◌∷◌, map, eqb, take, drop}
-use Rattle.std.proofs.Math.Option.{Option, none, some}
+use Rattle.std.specs.Prelude.{Option, None, Some}
 use Rattle.refusals.specs.Answers as refusals
 use Rattle.pack.specs.Reading.{Ending, whole, refused, reading}
 use Rattle.pack.specs.declared.Entry.{Entry}
@@ -61,28 +61,28 @@ pub record Version : Type 0 where
   pub start : ℕ
 
 abbrev pub version_by : ℕ → List ℕ → Role → Option Version
-version_by start value (version i delete_flag) = some (record { identifier = i; delete_flag = delete_flag; value = value; start = start })
-version_by start value (deletion i) = none
-version_by start value other = none
-version_by start value (unreadable n) = none
+version_by start value (version i delete_flag) = Some (record { identifier = i; delete_flag = delete_flag; value = value; start = start })
+version_by start value (deletion i) = None
+version_by start value other = None
+version_by start value (unreadable n) = None
 
 unfoldable pub version_of : Placed → Option Version
 version_of p = version_by p.start p.value p.role
 
 -- a version, where its identifier passes a test
 unfoldable pub filtered : (Identity → Bool) → Option Version → Option Version
-filtered test none = none
-filtered test (some v) = cond (test v.identifier) (some v) none
+filtered test None = None
+filtered test (Some v) = cond (test v.identifier) (Some v) None
 
 -- the first stands earlier: the later is better only where its ULID is greater
 unfoldable pub better : Option Version → Option Version → Option Version
-better none w = w
-better (some v) none = some v
-better (some v) (some w) = cond (less v.identifier.ulid w.identifier.ulid) (some w) (some v)
+better None w = w
+better (Some v) None = Some v
+better (Some v) (Some w) = cond (less v.identifier.ulid w.identifier.ulid) (Some w) (Some v)
 
 -- the best of the versions whose identifiers pass a test
 unfoldable pub best : (Identity → Bool) → List Placed → Option Version
-best test [] = none
+best test [] = None
 best test (p ∷ ps) = better (filtered test (version_of p)) (best test ps)
 
 -- ---- the current version among the records of a pack
@@ -100,7 +100,7 @@ is_deleted (p ∷ ps) i = deletes i p.role || is_deleted ps i
 
 -- of this name, and no `vd` names it
 unfoldable pub is_live : List Placed → List ℕ → List ℕ → Identity → Bool
-is_live ps bucket object i = has_name (some i) bucket object && not (is_deleted ps i)
+is_live ps bucket object i = has_name (Some i) bucket object && not (is_deleted ps i)
 
 unfoldable pub current : List Placed → List ℕ → List ℕ → Option Version
 current ps bucket object = best (is_live ps bucket object) ps
@@ -129,8 +129,8 @@ unless_refused whole next = next
 unless_refused (refused n at) next = refused_at n at
 
 abbrev pub answer_of : Option Version → Answer
-answer_of none = nothing
-answer_of (some v) = found v
+answer_of None = nothing
+answer_of (Some v) = found v
 
 -- of the records of an accepted pack
 unfoldable pub answer_in : List Placed → List ℕ → List ℕ → Answer

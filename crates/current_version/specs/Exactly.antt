@@ -5,7 +5,7 @@ use Rattle.std.proofs.Common.{true≢false, ◌∙◌}
 use mathlib.Core.List.Memᴰ
 use mathlib.Core.List.{List, [], ◌∷◌, ◌++◌, map, append-nil, Memᴰ}
 use Rattle.std.proofs.Math.Logic.{⊎_elim}
-use Rattle.std.proofs.Math.Option.{some}
+use Rattle.std.specs.Prelude.{Some}
 use Rattle.std.proofs.Math.Path.{refl, sym, ap}
 use Rattle.std.proofs.lemmas.Bool.{not-true}
 use Rattle.slices.specs.Bytes.{same_bytes, same_bytes_refl, same_bytes_equal}
@@ -26,7 +26,7 @@ Kept ps i = (p : Placed) → Memᴰ p ps → p.role ≡ deletion i → ⊥
 
 -- p is a `vr` of this name, whose identifier no `vd` names; v is what it tells
 pub record Live (ps : List Placed) (bucket object : List ℕ) (p : Placed) (v : Version) : Type 0 where
-  pub tells : version_of p ≡ some v
+  pub tells : version_of p ≡ Some v
   pub in_bucket : v.identifier.bucket ≡ bucket
   pub is_object_lem : v.identifier.object ≡ object
   pub kept : Kept ps v.identifier
@@ -38,20 +38,20 @@ pub record IsCurrent (ps : List Placed) (bucket object : List ℕ) (v : Version)
   pub cut : ps ≡ front ++ (at ∷ back)
   pub live : Live ps bucket object at v
   pub greatest : (p : Placed) (w : Version) → Memᴰ p ps → Live ps bucket object p w → less (ulid_of v) (ulid_of w) ≡ false
-  pub earliest : (p : Placed) (w : Version) → Memᴰ p front → version_of p ≡ some w → w.identifier ≡ v.identifier → ⊥
+  pub earliest : (p : Placed) (w : Version) → Memᴰ p front → version_of p ≡ Some w → w.identifier ≡ v.identifier → ⊥
 
 pub current_member : {ps : List Placed} {bucket object : List ℕ} {v : Version} (c : IsCurrent ps bucket object v) → Memᴰ c.at ps
 current_member c = rw c.cut (Memᴰ.append_right c.front (Memᴰ.head refl))
 
 -- ---- names
 
-pub has_name_lem : (bucket object : List ℕ) (i : Identity) → has_name (some i) bucket object ≡ true → (i.bucket ≡ bucket) × (i.object ≡ object)
+pub has_name_lem : (bucket object : List ℕ) (i : Identity) → has_name (Some i) bucket object ≡ true → (i.bucket ≡ bucket) × (i.object ≡ object)
 unfolding has_name
 has_name_lem bucket object i e =
     let h = both (same_bytes i.bucket bucket) (same_bytes i.object object) e in
     (same_bytes_equal i.bucket bucket h.0, same_bytes_equal i.object object h.1)
 
-pub name_had : (bucket object : List ℕ) (i : Identity) → i.bucket ≡ bucket → i.object ≡ object → has_name (some i) bucket object ≡ true
+pub name_had : (bucket object : List ℕ) (i : Identity) → i.bucket ≡ bucket → i.object ≡ object → has_name (Some i) bucket object ≡ true
 unfolding has_name
 name_had bucket object i p q = rw (p, q, same_bytes_refl bucket, same_bytes_refl object)
 
@@ -107,7 +107,7 @@ module _ (ps : List Placed) (bucket object : List ℕ) where
   pub passes_live : (p : Placed) (v : Version) → Passes (is_live ps bucket object) (version_of p) v → Live ps bucket object p v
   unfolding is_live
   passes_live p v o =
-      let h = both (has_name (some v.identifier) bucket object) (not (is_deleted ps v.identifier)) o.test_passed in
+      let h = both (has_name (Some v.identifier) bucket object) (not (is_deleted ps v.identifier)) o.test_passed in
       let n = has_name_lem bucket object v.identifier h.0 in
       record { tells = o.is; in_bucket = n.0; is_object_lem = n.1; kept = kept_of_lem ps v.identifier (not-true (is_deleted ps v.identifier) h.1) }
 

@@ -1,7 +1,7 @@
 -- Demand 3, order: packs with the same records, each as often, answer alike, where `vr` records that share an identifier have equal values.
 use Rattle.std.specs.Prelude.{ℕ, suc, Bool, cond, ◌≡◌}
 use mathlib.Core.List.{List, [], ◌∷◌, Memᴰ}
-use Rattle.std.proofs.Math.Option.{some}
+use Rattle.std.specs.Prelude.{Some}
 use Rattle.slices.specs.Bytes.{same_bytes}
 use Rattle.tlv.specs.Layout.{Record, layout}
 use Rattle.identifier.specs.Identity.{Identity}
@@ -31,5 +31,5 @@ pub record Standing (bytes : List ℕ) (rs : List Record) : Type 0 where
 -- ---- lists with the same members, in which versions that share an identifier are the same, have the same current version
 
 abbrev pub Alike : List Placed → Type 0
-Alike ps = (p q : Placed) (v w : Version) → Memᴰ p ps → Memᴰ q ps → version_of p ≡ some v → version_of q ≡ some w
+Alike ps = (p q : Placed) (v w : Version) → Memᴰ p ps → Memᴰ q ps → version_of p ≡ Some v → version_of q ≡ Some w
     → v.identifier ≡ w.identifier → p ≡ q

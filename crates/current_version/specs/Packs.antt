@@ -2,7 +2,7 @@
 use Rattle.std.specs.Prelude.{ℕ, ◌+◌, ◌≤◌, Bool, true, false, cond, ◌≡◌, refl, length, take, drop}
 use mathlib.Core.List.Memᴰ
 use mathlib.Core.List.{List, [], ◌∷◌, ◌++◌, map, Memᴰ}
-use Rattle.std.proofs.Math.Option.{Option, none, some}
+use Rattle.std.specs.Prelude.{Option, None, Some}
 use Rattle.std.proofs.Common.{sym, ap, subst, ◌∙◌, drop_at, drop-drop}
 use Rattle.slices.specs.Bytes.{AllBytes}
 use Rattle.slices.specs.Logic.{absurd_numbers}
@@ -162,5 +162,5 @@ abbrev pub unplaced : ℕ → Record → Placed
 unplaced limit r = placed_by limit 0 r.tag r.value
 
 abbrev pub forget : Option Version → Option Version
-forget none = none
-forget (some v) = some (record { identifier = v.identifier; delete_flag = v.delete_flag; value = v.value; start = 0 })
+forget None = None
+forget (Some v) = Some (record { identifier = v.identifier; delete_flag = v.delete_flag; value = v.value; start = 0 })

@@ -1,6 +1,6 @@
 -- What a record's role says of its tag and its identifier.
 use Rattle.std.specs.Prelude.{ℕ, Bool, true, false, cond, ◌||◌, List, ◌≡◌, refl, eqb}
-use Rattle.std.proofs.Math.Option.{none, some}
+use Rattle.std.specs.Prelude.{None, Some}
 use Rattle.std.proofs.Common.{sym, ap, subst, ◌∙◌, eqb-true}
 use Rattle.slices.specs.Logic.{absurd_numbers}
 use Rattle.refusals.specs.Answers as refusals
@@ -41,10 +41,10 @@ delete_no_version limit value i f e = go (read_record limit version_delete_tag v
     go (refusals.refused n) r h = absurd_numbers (cc)
 
 -- so it tells no version
-pub delete_tells_none : (limit start : ℕ) (value : List ℕ) → version_by start value (role limit version_delete_tag value) ≡ none
+pub delete_tells_none : (limit start : ℕ) (value : List ℕ) → version_by start value (role limit version_delete_tag value) ≡ None
 delete_tells_none limit start value = go (role limit version_delete_tag value) refl
   where
-    go : (r : Role) → role limit version_delete_tag value ≡ r → version_by start value r ≡ none
+    go : (r : Role) → role limit version_delete_tag value ≡ r → version_by start value r ≡ None
     go (version i f) e = absurd (delete_no_version limit value i f e)
     go (deletion i) e = refl
     go other e = refl
@@ -113,12 +113,12 @@ version_role limit tag value i f e = first (eqb tag version_tag) refl (eqb tag v
     first false p false q h = absurd_numbers (cc)
 
 -- a record that tells a version has that role
-pub version_told : (limit start tag : ℕ) (value : List ℕ) (v : Version) → version_of (placed_by limit start tag value) ≡ some v
+pub version_told : (limit start tag : ℕ) (value : List ℕ) (v : Version) → version_of (placed_by limit start tag value) ≡ Some v
     → role limit tag value ≡ version v.identifier v.delete_flag
 unfolding version_of
 version_told limit start tag value v e = go (role limit tag value) e
   where
-    go : (r : Role) → version_by start value r ≡ some v → r ≡ version v.identifier v.delete_flag
+    go : (r : Role) → version_by start value r ≡ Some v → r ≡ version v.identifier v.delete_flag
     go (version i f) h =
         let is : record { identifier = i; delete_flag = f; value = value; start = start } ≡ v = cc in
         rw (← is)

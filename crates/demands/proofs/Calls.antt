@@ -2,7 +2,7 @@
 use Prim.Native.Nat.{ℕ, ◌≤◌}
 use mathlib.Core.Bool.{Bool, true, false, cond}
 use mathlib.Core.List.{List}
-use mathlib.Core.Option.{Option, none, some}
+use Rattle.std.specs.Prelude.{Option, None, Some, Result, Ok, Err}
 use mathlib.Core.Path.{◌≡◌, refl, sym, ap, subst, ◌∙◌}
 use native.Mathlib.Omega.{arith}
 use lib.ListN.{length, take}
@@ -11,21 +11,19 @@ use Rattle.slices.specs.Logic.{absurd_numbers}
 use Rattle.refusals.specs.Answers as refusals
 use Rattle.refusals.specs.Limit.{pack_limit}
 use Rattle.refusals.specs.Answers.{granted}
+use Rattle.refusals.specs.declared.Unwritten.{Unwritten}
+use Rattle.refusals.specs.declared.Unwritten.TheVariants as unwritten
 use Rattle.identifier.specs.Identity.{Identity}
 use Rattle.records.specs.Record.{version_delete_tag}
 use Rattle.writer.specs.Writing.{Item, deletion, tag_of, of_identity, answer_of, written, buffer_after}
-use Rattle.writer.specs.declared.Written.{Written}
-use Rattle.writer.specs.declared.Written.TheVariants as written-answer
 use Rattle.writer_laws.specs.Refusals.{written_exactly}
 use Rattle.current_version.specs.Current.{Answer, refused_at, is_name, lookup}
 use Rattle.current_version.specs.Packs.{ReadablePack, SameAnswer}
 use Rattle.lookup.specs.Answers.{found_of, FoundInside}
-use Rattle.lookup.specs.declared.Found.{Found}
 use Rattle.demands_laws.specs.Deletion.{TakesOut}
 use Rattle.demands_laws.proofs.Deletion.{deletion_takes_out}
 use Rattle.demands.specs.Answers.{counted, of_front, answers_of, looked_up, WritesFor, CountInside, DeletionInside, DeletionHolds}
-use Rattle.demands.specs.declared.Deletion.{Deletion}
-use Rattle.demands.specs.declared.Deletion.TheVariants.{LookedUp, Short, Inadmissible}
+use Rattle.demands.specs.declared.LookedUp.{LookedUp}
 
 -- ---- what is told of the front, where the writer returned a count
 
@@ -45,11 +43,11 @@ pub record Within (used n : ℕ) (before : List ℕ) : Type 0 where
 
 pub within : (used n : ℕ) (asked : Option Item) (before : List ℕ) → written pack_limit (length before) used asked ≡ granted n → Within used n before
 unfolding written
-within used n none before e = absurd_numbers (cc)
-within used n (some item) before e =
+within used n None before e = absurd_numbers (cc)
+within used n (Some item) before e =
     let w = (written_exactly pack_limit (length before) used item n).0 e in record { so_far = omega arith; count = omega arith }
 
-pub count_inside : (used : ℕ) (asked : Option Item) (before after : List ℕ) (w : Written) → answer_of w ≡ written pack_limit (length before) used asked
+pub count_inside : (used : ℕ) (asked : Option Item) (before after : List ℕ) (w : Result ℕ Unwritten) → answer_of w ≡ written pack_limit (length before) used asked
     → length after ≡ length before → CountInside after w
 count_inside used asked before after w e same =
     record { inside = λ n is. omega (arith, (within used n asked before (sym e ∙ ap answer_of is)).count) }
@@ -57,42 +55,39 @@ count_inside used asked before after w e same =
 -- ---- the writer's call, only for a name that is admissible
 
 module _ {admissible : Bool} {used : ℕ} {asked : Option Item} {before : List ℕ} where
-  pub called : {w : Written} {after : List ℕ} → admissible ≡ true → answer_of w ≡ written pack_limit (length before) used asked
+  pub called : {w : Result ℕ Unwritten} {after : List ℕ} → admissible ≡ true → answer_of w ≡ written pack_limit (length before) used asked
       → after ≡ buffer_after pack_limit used asked before → WritesFor admissible used asked before w after
   called t answer buffer = record { answer = rw t answer; buffer = rw t buffer }
 
-  pub not_called : admissible ≡ false → WritesFor admissible used asked before written-answer.Inadmissible before
+  pub not_called : admissible ≡ false → WritesFor admissible used asked before (Err unwritten.Inadmissible) before
   not_called t = record { answer = rw t; buffer = rw t }
 
 -- ---- the lookup, where the writer returned a count
 
-pub inside_found : (buf : List ℕ) (n : ℕ) (f : Found) → FoundInside (take n buf) f → DeletionInside buf (LookedUp n f)
-inside_found buf n f h = record { inside = λ m g e. let p : n ≡ m = cc in let q : f ≡ g = cc in rw (← p, ← q) h }
+pub inside_found : (buf : List ℕ) (l : LookedUp) → FoundInside (take l.count buf) l.found → DeletionInside buf (Ok l)
+inside_found buf l h = record { inside = λ k e. let same : l ≡ k = cc in rw (← same) h }
 
-pub inside_short : (buf : List ℕ) → DeletionInside buf Short
-inside_short buf = record { inside = λ n f e. absurd_numbers (cc) }
-
-pub inside_inadmissible : (buf : List ℕ) → DeletionInside buf Inadmissible
-inside_inadmissible buf = record { inside = λ n f e. absurd_numbers (cc) }
+pub inside_unwritten : (buf : List ℕ) (u : Unwritten) → DeletionInside buf (Err u)
+inside_unwritten buf u = record { inside = λ l e. absurd_numbers (cc) }
 
 -- ---- the writer's call and the lookup
 
 -- whatever is asked for is a `vd`
 abbrev pub AsksDelete : Option Item → Type 0
-AsksDelete none = Unit {0}
-AsksDelete (some item) = tag_of item ≡ version_delete_tag
+AsksDelete None = Unit {0}
+AsksDelete (Some item) = tag_of item ≡ version_delete_tag
 
 pub asks_deletion : (u : List ℕ) (o : Option Identity) → AsksDelete (of_identity (λ i. deletion i u) o)
-asks_deletion u none = tt
-asks_deletion u (some i) = refl
+asks_deletion u None = tt
+asks_deletion u (Some i) = refl
 
 count_takes_out : (used n : ℕ) (asked : Option Item) (before : List ℕ) → written pack_limit (length before) used asked ≡ granted n
     → (bucket object : List ℕ) → AsksDelete asked → AllBytes (buffer_after pack_limit used asked before)
     → ReadablePack pack_limit (take used before) → is_name bucket object ≡ true
     → TakesOut pack_limit asked (take used before) bucket object (lookup pack_limit (take n (buffer_after pack_limit used asked before)) bucket object)
 unfolding written
-count_takes_out used n none before e = absurd_numbers (cc)
-count_takes_out used n (some item) before e = deletion_takes_out pack_limit (omega arith) item used n before e
+count_takes_out used n None before e = absurd_numbers (cc)
+count_takes_out used n (Some item) before e = deletion_takes_out pack_limit (omega arith) item used n before e
 
 module _ (used : ℕ) (asked : Option Item) (before after : List ℕ) where
   record Counts (name : Bool) (n : ℕ) : Type 0 where
@@ -103,18 +98,18 @@ module _ (used : ℕ) (asked : Option Item) (before after : List ℕ) where
   counts true n e = record { named = refl; wrote = e }
   counts false n e = absurd_numbers (cc)
 
-  pub deletion_inside : {name : Bool} {w : Written} → WritesFor name used asked before w after → length after ≡ length before → CountInside after w
+  pub deletion_inside : {name : Bool} {w : Result ℕ Unwritten} → WritesFor name used asked before w after → length after ≡ length before → CountInside after w
   deletion_inside {name} h same =
       record { inside = λ n is. omega (arith, (within used n asked before (counts name n (sym h.answer ∙ ap answer_of is)).wrote).count) }
 
-  module _ (bucket object : List ℕ) (r : Deletion) where
+  module _ (bucket object : List ℕ) (r : Result LookedUp Unwritten) where
     abbrev answer : refusals.Answer ℕ
     answer = cond (is_name bucket object) (written pack_limit (length before) used asked) (refusals.refused 20)
 
     no_refusal : (number place : ℕ) (a b : Answer) → a ≡ refused_at number place → SameAnswer a b → ⊥
     no_refusal number place a b e s = subst (λ x. SameAnswer x b) e s
 
-    pub deletion_holds : AsksDelete asked → AllBytes after → (w : Written) → WritesFor (is_name bucket object) used asked before w after
+    pub deletion_holds : AsksDelete asked → AllBytes after → (w : Result ℕ Unwritten) → WritesFor (is_name bucket object) used asked before w after
         → answers_of after r ≡ of_front (looked_up bucket object) after (answer_of w) → DeletionInside after r
         → DeletionHolds used asked before bucket object r after
     deletion_holds vd all w wrote found inside =
@@ -122,33 +117,33 @@ module _ (used : ℕ) (asked : Option Item) (before after : List ℕ) where
           answers = answers;
           buffer = wrote.buffer;
           found_inside = inside;
-          named = λ n f is. (count n f is).named;
-          told_inside = λ n f is. (within used n asked before (count n f is).wrote).so_far;
+          named = λ l is. (count l is).named;
+          told_inside = λ l is. (within used l.count asked before (count l is).wrote).so_far;
           takes_out = takes_out;
-          stands_written = λ n f number place is refuses.
+          stands_written = λ l number place is refuses.
               record {
-                refuses = sym (there n f is).told ∙ refuses;
-                counted = (count n f is).wrote;
-                buffer = stored n f is;
-                damaged = λ readable. no_refusal number place _ _ refuses (takes_out n f is readable).same;
+                refuses = sym (there l is).told ∙ refuses;
+                counted = (count l is).wrote;
+                buffer = stored l is;
+                damaged = λ readable. no_refusal number place _ _ refuses (takes_out l is readable).same;
               };
         }
       where
         answers : answers_of after r ≡ of_front (looked_up bucket object) after answer
         answers = found ∙ ap (of_front (looked_up bucket object) after) wrote.answer
 
-        there : (n : ℕ) (f : Found) → r ≡ LookedUp n f → OfFront (looked_up bucket object) after answer n (found_of (take n after) f)
-        there n f is = of_front_lem (looked_up bucket object) after answer n _ (ap (answers_of after) (sym is) ∙ answers)
+        there : (l : LookedUp) → r ≡ Ok l → OfFront (looked_up bucket object) after answer l.count (found_of (take l.count after) l.found)
+        there l is = of_front_lem (looked_up bucket object) after answer l.count _ (ap (answers_of after) (sym is) ∙ answers)
 
-        count : (n : ℕ) (f : Found) → r ≡ LookedUp n f → Counts (is_name bucket object) n
-        count n f is = counts (is_name bucket object) n (there n f is).answered
+        count : (l : LookedUp) → r ≡ Ok l → Counts (is_name bucket object) l.count
+        count l is = counts (is_name bucket object) l.count (there l is).answered
 
-        stored : (n : ℕ) (f : Found) → r ≡ LookedUp n f → after ≡ buffer_after pack_limit used asked before
-        stored n f is = wrote.buffer ∙ ap (λ b. cond b (buffer_after pack_limit used asked before) before) (count n f is).named
+        stored : (l : LookedUp) → r ≡ Ok l → after ≡ buffer_after pack_limit used asked before
+        stored l is = wrote.buffer ∙ ap (λ b. cond b (buffer_after pack_limit used asked before) before) (count l is).named
 
-        takes_out : (n : ℕ) (f : Found) → r ≡ LookedUp n f → ReadablePack pack_limit (take used before)
-            → TakesOut pack_limit asked (take used before) bucket object (found_of (take n after) f)
-        takes_out n f is readable =
-            let c = count n f is in
-            rw ((there n f is).told, stored n f is)
-            (count_takes_out used n asked before c.wrote bucket object vd (subst AllBytes (stored n f is) all) readable c.named)
+        takes_out : (l : LookedUp) → r ≡ Ok l → ReadablePack pack_limit (take used before)
+            → TakesOut pack_limit asked (take used before) bucket object (found_of (take l.count after) l.found)
+        takes_out l is readable =
+            let c = count l is in
+            rw ((there l is).told, stored l is)
+            (count_takes_out used l.count asked before c.wrote bucket object vd (subst AllBytes (stored l is) all) readable c.named)

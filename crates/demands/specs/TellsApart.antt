@@ -1,31 +1,28 @@
 -- The relations that the demands are said with here tell things apart: what differs in one respect alone is not related. Those of crates below have
 -- a file of this name there.
 use Rattle.std.specs.Prelude.{ℕ, ◌≤◌, true, cond, List, ◌≡◌, length, take}
-use Rattle.std.proofs.Math.Option.{Option}
+use Rattle.std.specs.Prelude.{Option, Result, Ok}
 use Rattle.refusals.specs.Limit.{pack_limit}
 use Rattle.refusals.specs.Answers as refusals
 use Rattle.refusals.specs.Answers.{granted}
+use Rattle.refusals.specs.declared.Unwritten.{Unwritten}
 use Rattle.records.specs.Answers.{PlaceInside}
-use Rattle.records.specs.declared.AtPlace as declared-place
 use Rattle.writer.specs.Writing.{Item, written, buffer_after}
 use Rattle.writer_laws.specs.Added.{IsAdded}
 use Rattle.current_version.specs.Current.{refused_at, is_name, lookup}
 use Rattle.current_version.specs.Packs.{ReadablePack, SameAnswer}
 use Rattle.current_version.specs.Bytes.{SameRecordsIn, OneValueIn}
 use Rattle.lookup.specs.Answers.{found_of, FoundInside}
-use Rattle.lookup.specs.declared.Found.{Found}
 use Rattle.demands_laws.specs.Deletion.{TakesOut}
 use Rattle.demands_laws.specs.Sites.{AlikePacks, AlikeLookups}
 use Rattle.demands.specs.Answers.{of_front, answers_of, looked_up, DeletionHolds, BothHold, read_back_of, read_behind, ReadBackHolds}
-use Rattle.demands.specs.declared.Deletion.{Deletion}
-use Rattle.demands.specs.declared.Deletion.TheVariants.{LookedUp}
+use Rattle.demands.specs.declared.LookedUp.{LookedUp}
 use Rattle.demands.specs.declared.Both.{Both}
 use Rattle.demands.specs.declared.ReadBack.{ReadBack}
-use Rattle.demands.specs.declared.ReadBack.TheVariants.{Read}
 
 -- ---- the calls that write a deletion and look an object up
 
-module _ (used : ℕ) (asked : Option Item) (before bucket object : List ℕ) (r : Deletion) (after : List ℕ)
+module _ (used : ℕ) (asked : Option Item) (before bucket object : List ℕ) (r : Result LookedUp Unwritten) (after : List ℕ)
     (x : DeletionHolds used asked before bucket object r after) where
   pub other_answers_than_the_calls : (answers_of after r ≡ of_front (looked_up bucket object) after
       (cond (is_name bucket object) (written pack_limit (length before) used asked) (refusals.refused 20)) → ⊥) → ⊥
@@ -34,52 +31,52 @@ module _ (used : ℕ) (asked : Option Item) (before bucket object : List ℕ) (r
   pub another_buffer : (after ≡ cond (is_name bucket object) (buffer_after pack_limit used asked before) before → ⊥) → ⊥
   another_buffer d = d x.buffer
 
-  module _ (n : ℕ) (f : Found) (is : r ≡ LookedUp n f) where
-    pub found_outside : (FoundInside (take n after) f → ⊥) → ⊥
-    found_outside d = d (x.found_inside.inside n f is)
+  module _ (l : LookedUp) (is : r ≡ Ok l) where
+    pub found_outside : (FoundInside (take l.count after) l.found → ⊥) → ⊥
+    found_outside d = d (x.found_inside.inside l is)
 
     pub name_is_not_admissible : (is_name bucket object ≡ true → ⊥) → ⊥
-    name_is_not_admissible d = d (x.named n f is)
+    name_is_not_admissible d = d (x.named l is)
 
     pub more_told_than_there : (used ≤ length before → ⊥) → ⊥
-    more_told_than_there d = d (x.told_inside n f is)
+    more_told_than_there d = d (x.told_inside l is)
 
     pub others_are_taken_out : ReadablePack pack_limit (take used before)
-        → (TakesOut pack_limit asked (take used before) bucket object (found_of (take n after) f) → ⊥) → ⊥
-    others_are_taken_out readable d = d (x.takes_out n f is readable)
+        → (TakesOut pack_limit asked (take used before) bucket object (found_of (take l.count after) l.found) → ⊥) → ⊥
+    others_are_taken_out readable d = d (x.takes_out l is readable)
 
     -- where a refusal is found
-    module _ (number place : ℕ) (found : found_of (take n after) f ≡ refused_at number place) where
-      pub lookup_does_not_refuse : (lookup pack_limit (take n after) bucket object ≡ refused_at number place → ⊥) → ⊥
-      lookup_does_not_refuse d = d (x.stands_written n f number place is found).refuses
+    module _ (number place : ℕ) (found : found_of (take l.count after) l.found ≡ refused_at number place) where
+      pub lookup_does_not_refuse : (lookup pack_limit (take l.count after) bucket object ≡ refused_at number place → ⊥) → ⊥
+      lookup_does_not_refuse d = d (x.stands_written l number place is found).refuses
 
-      pub another_count : (written pack_limit (length before) used asked ≡ granted n → ⊥) → ⊥
-      another_count d = d (x.stands_written n f number place is found).counted
+      pub another_count : (written pack_limit (length before) used asked ≡ granted l.count → ⊥) → ⊥
+      another_count d = d (x.stands_written l number place is found).counted
 
       pub not_written : (after ≡ buffer_after pack_limit used asked before → ⊥) → ⊥
-      not_written d = d (x.stands_written n f number place is found).buffer
+      not_written d = d (x.stands_written l number place is found).buffer
 
       pub nothing_was_damaged : ReadablePack pack_limit (take used before) → ⊥
-      nothing_was_damaged = (x.stands_written n f number place is found).damaged
+      nothing_was_damaged = (x.stands_written l number place is found).damaged
 
 -- ---- a record added
 
-module _ (used : ℕ) (asked : Option Item) (before : List ℕ) (r : ReadBack) (after : List ℕ) (x : ReadBackHolds used asked before r after) where
+module _ (used : ℕ) (asked : Option Item) (before : List ℕ) (r : Result ReadBack Unwritten) (after : List ℕ) (x : ReadBackHolds used asked before r after) where
   pub other_answers_than_the_readings : (read_back_of after r ≡ of_front (read_behind used) after (written pack_limit (length before) used asked) → ⊥) → ⊥
   other_answers_than_the_readings d = d x.answers
 
   pub another_buffer_read : (after ≡ buffer_after pack_limit used asked before → ⊥) → ⊥
   another_buffer_read d = d x.buffer
 
-  module _ (n : ℕ) (p : declared-place.AtPlace) (is : r ≡ Read n p) where
-    pub read_outside : (PlaceInside (take n after) used p → ⊥) → ⊥
-    read_outside d = d (x.read_inside.inside n p is)
+  module _ (b : ReadBack) (is : r ≡ Ok b) where
+    pub read_outside : (PlaceInside (take b.count after) used b.read → ⊥) → ⊥
+    read_outside d = d (x.read_inside.inside b is)
 
     pub read_behind_the_end : (used ≤ length before → ⊥) → ⊥
-    read_behind_the_end d = d (x.told_inside n p is)
+    read_behind_the_end d = d (x.told_inside b is)
 
-    pub another_is_added : (IsAdded asked (take used before) (take n after) p → ⊥) → ⊥
-    another_is_added d = d (x.reads_back n p is)
+    pub another_is_added : (IsAdded asked (take used before) (take b.count after) b.read → ⊥) → ⊥
+    another_is_added d = d (x.reads_back b is)
 
 -- ---- a lookup in two packs
 

@@ -1,7 +1,7 @@
 -- Demand 3, deletion, with the writer's call in it: on the front as long as the count returned, the lookup answers as on the front before
 -- without the versions of the identifier that is deleted.
 use Rattle.std.specs.Prelude.{ℕ, ◌^◌, ◌<◌, true, List, ◌≡◌, refl, length, take}
-use Rattle.std.proofs.Math.Option.{some}
+use Rattle.std.specs.Prelude.{Some}
 use Rattle.std.proofs.Common.{sym, ap, ◌∙◌, arith}
 use Rattle.slices.specs.Bytes.{AllBytes}
 use Rattle.slices.specs.Logic.{absurd_numbers}
@@ -42,11 +42,11 @@ deletes (deletion i u) t a = record { identifier = i; is_deleted_lem = refl; hel
 
 -- ---- the theorem
 
-module _ (limit : ℕ) (small : limit < 2 ^ 32) (item : Item) (used n : ℕ) (buf : List ℕ) (wrote : written limit (length buf) used (some item) ≡ granted n) where
+module _ (limit : ℕ) (small : limit < 2 ^ 32) (item : Item) (used n : ℕ) (buf : List ℕ) (wrote : written limit (length buf) used (Some item) ≡ granted n) where
   -- DELETION
   pub deletion_takes_out : (bucket object : List ℕ) → tag_of item ≡ version_delete_tag
-      → AllBytes (buffer_after limit used (some item) buf) → ReadablePack limit (take used buf) → is_name bucket object ≡ true
-      → TakesOut limit (some item) (take used buf) bucket object (lookup limit (take n (buffer_after limit used (some item) buf)) bucket object)
+      → AllBytes (buffer_after limit used (Some item) buf) → ReadablePack limit (take used buf) → is_name bucket object ≡ true
+      → TakesOut limit (Some item) (take used buf) bucket object (lookup limit (take n (buffer_after limit used (Some item) buf)) bucket object)
   deletion_takes_out bucket object tag all readable name =
       let w = (written_exactly limit (length buf) used item n).0 wrote in
       let bytes = before_bytes limit small item used n buf wrote all in

@@ -7,7 +7,7 @@ use mathlib.Core.List.Memᴰ
 use mathlib.Core.List.Memᴰ.{tail as past}
 use mathlib.Core.List.{List, [], ◌∷◌, Memᴰ}
 use Rattle.std.proofs.Math.Logic.{inl, inr, ⊎_elim}
-use Rattle.std.proofs.Math.Option.{Option, none, some}
+use Rattle.std.specs.Prelude.{Option, None, Some}
 use Rattle.std.proofs.Math.Path.{refl, sym, ap}
 use Rattle.std.proofs.Common.{subst, ◌∙◌}
 use native.Mathlib.Omega.{arith}
@@ -120,8 +120,8 @@ module _ (limit tag : ℕ) (s : List ℕ) (t : Told) (tells : HeaderTells limit 
   block_rows is = filling (λ w. rw (is, w)) (λ w. shape w (shape_under byte_view (part limit tag s t tells)) refl)
     where
       shape : fills (part limit tag s t tells) ≡ true → (o : Option Shape) → shape_under byte_view (part limit tag s t tells) ≡ o → (AtPart limit tag s t tells) from_description
-      shape w none h = now (t, tells, no_shape (inl is) h) (rw (is, w, h))
-      shape w (some i) h = described missing (repeated (block_repeats byte_view (part limit tag s t tells)) refl)
+      shape w None h = now (t, tells, no_shape (inl is) h) (rw (is, w, h))
+      shape w (Some i) h = described missing (repeated (block_repeats byte_view (part limit tag s t tells)) refl)
         where
           missing : NotDescribed tag (part limit tag s t tells) → ⊥
           missing (no_shape g e) = absurd_numbers (cc)
@@ -141,8 +141,8 @@ module _ (limit tag : ℕ) (s : List ℕ) (t : Told) (tells : HeaderTells limit 
               twice (in_entries g e) = omega arith
 
               rules : (o : Option Identity) → identity_by i ≡ o → (AtPart limit tag s t tells) from_rules
-              rules none r = now (t, tells, shape_breaks (inl is) i h r) (rw (is, w, h, n, r))
-              rules (some j) r = kept broken (all_filled (no_list λ g. omega arith) (record { identifier = j; kind = records.block }) (rw (is, w, h, n, r)))
+              rules None r = now (t, tells, shape_breaks (inl is) i h r) (rw (is, w, h, n, r))
+              rules (Some j) r = kept broken (all_filled (no_list λ g. omega arith) (record { identifier = j; kind = records.block }) (rw (is, w, h, n, r)))
                 where
                   broken : BreaksRules tag (part limit tag s t tells) → ⊥
                   broken (shape_breaks g k e f) = absurd_numbers (cc)
@@ -156,9 +156,9 @@ module _ (limit tag : ℕ) (s : List ℕ) (t : Told) (tells : HeaderTells limit 
     where
       texts : fills (part limit tag s t tells) ≡ true → (o : Option Identity) → texts_under byte_view (part limit tag s t tells) ≡ o → (p : Option Bool) → deleted_under byte_view (part limit tag s t tells) ≡ p
           → (AtPart limit tag s t tells) from_description
-      texts w none h p f = now (t, tells, no_texts (rw is) h) (rw (is, w, h))
-      texts w (some i) h none f = now (t, tells, no_boolean is f) (rw (is, w, h, f))
-      texts w (some i) h (some d) f = described missing (repeated (repeats byte_view version_keys (part limit tag s t tells)) refl)
+      texts w None h p f = now (t, tells, no_texts (rw is) h) (rw (is, w, h))
+      texts w (Some i) h None f = now (t, tells, no_boolean is f) (rw (is, w, h, f))
+      texts w (Some i) h (Some d) f = described missing (repeated (repeats byte_view version_keys (part limit tag s t tells)) refl)
         where
           missing : NotDescribed tag (part limit tag s t tells) → ⊥
           missing (no_shape g e) = not_looked_at tag g (rw is)
@@ -193,9 +193,9 @@ module _ (limit tag : ℕ) (s : List ℕ) (t : Told) (tells : HeaderTells limit 
     where
       texts : fills (part limit tag s t tells) ≡ true → (o : Option Identity) → texts_under byte_view (part limit tag s t tells) ≡ o → (p : Option (List ℕ)) → text_under byte_view delete_id_key (part limit tag s t tells) ≡ p
           → (AtPart limit tag s t tells) from_description
-      texts w none h p f = now (t, tells, no_texts (rw is) h) (rw (is, w, h))
-      texts w (some i) h none f = now (t, tells, no_delete_identifier is f) (rw (is, w, h, f))
-      texts w (some i) h (some d) f = described missing (repeated (repeats byte_view version_delete_keys (part limit tag s t tells)) refl)
+      texts w None h p f = now (t, tells, no_texts (rw is) h) (rw (is, w, h))
+      texts w (Some i) h None f = now (t, tells, no_delete_identifier is f) (rw (is, w, h, f))
+      texts w (Some i) h (Some d) f = described missing (repeated (repeats byte_view version_delete_keys (part limit tag s t tells)) refl)
         where
           missing : NotDescribed tag (part limit tag s t tells) → ⊥
           missing (no_shape g e) = not_looked_at tag g (rw is)
@@ -232,9 +232,9 @@ module _ (limit tag : ℕ) (s : List ℕ) (t : Told) (tells : HeaderTells limit 
     where
       shape : fills (part limit tag s t tells) ≡ true → (o : Option Shape) → shape_under byte_view (part limit tag s t tells) ≡ o → (p : Option (List Entry)) → entries_under byte_view (part limit tag s t tells) ≡ p
           → (AtPart limit tag s t tells) from_description
-      shape w none h p f = now (t, tells, no_shape (inr is) h) (rw (is, w, h))
-      shape w (some i) h none f = now (t, tells, no_entries_lem is f) (rw (is, w, h, f))
-      shape w (some i) h (some es) f = described missing (repeated (block_repeats byte_view (part limit tag s t tells)) refl (list_repeats byte_view (part limit tag s t tells)) refl)
+      shape w None h p f = now (t, tells, no_shape (inr is) h) (rw (is, w, h))
+      shape w (Some i) h None f = now (t, tells, no_entries_lem is f) (rw (is, w, h, f))
+      shape w (Some i) h (Some es) f = described missing (repeated (block_repeats byte_view (part limit tag s t tells)) refl (list_repeats byte_view (part limit tag s t tells)) refl)
         where
           missing : NotDescribed tag (part limit tag s t tells) → ⊥
           missing (no_shape g e) = absurd_numbers (cc)
@@ -255,13 +255,13 @@ module _ (limit tag : ℕ) (s : List ℕ) (t : Told) (tells : HeaderTells limit 
               twice (in_entries g e) = clash e m
 
               rules : (o : Option Identity) → identity_by i ≡ o → (b : Bool) → all_of is_named es ≡ b → (AtPart limit tag s t tells) from_rules
-              rules none r b u = now (t, tells, shape_breaks (inr is) i h r) (rw (is, w, h, f, n, m, r))
-              rules (some j) r false u =
+              rules None r b u = now (t, tells, shape_breaks (inr is) i h r) (rw (is, w, h, f, n, m, r))
+              rules (Some j) r false u =
                   let x = one_fails is_named es u in
                   now (t, tells, pack_breaks is es f x.0 x.1 x.2) (rw (is, w, h, f, n, m, r, u))
-              rules (some j) r true u = kept broken (ranges (all_of is_filled es) refl)
+              rules (Some j) r true u = kept broken (ranges (all_of is_filled es) refl)
                 where
-                  same_entries : (k : List Entry) → entries_under byte_view (part limit tag s t tells) ≡ some k → k ≡ es
+                  same_entries : (k : List Entry) → entries_under byte_view (part limit tag s t tells) ≡ Some k → k ≡ es
                   same_entries k e = cc
 
                   broken : BreaksRules tag (part limit tag s t tells) → ⊥
@@ -326,8 +326,8 @@ module _ (limit tag : ℕ) (s : List ℕ) where
       of_size f m q = let same : m ≡ n = let e = sym q ∙ p in cc in ap (λ k. f (take k s)) same
 
       described_by : (o : Option Told) → header limit (take n s) ≡ o → (AtValue limit tag s) from_header
-      described_by none h = now (n, p, h) (rw (p, h))
-      described_by (some t) h =
+      described_by None h = now (n, p, h) (rw (p, h))
+      described_by (Some t) h =
           pass (λ x. let e = sym x.2 ∙ of_size (header limit) x.0 x.1 ∙ h in absurd_numbers (cc)) (repeated (header_repeats byte_view (take n s)) refl)
         where
           tells : HeaderTells limit s t

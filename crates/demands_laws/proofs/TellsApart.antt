@@ -1,6 +1,6 @@
 -- The relations of these theorems tell things apart: what differs in one respect alone is not related.
 use Rattle.std.specs.Prelude.{ℕ, List, ◌≡◌}
-use Rattle.std.proofs.Math.Option.{Option, some}
+use Rattle.std.specs.Prelude.{Option, Some}
 use Rattle.std.proofs.Common.{sym, subst, ◌∙◌}
 use Rattle.identifier.specs.Identity.{Identity}
 use Rattle.writer.specs.Writing.{Item}
@@ -14,7 +14,7 @@ use Rattle.demands_laws.specs.TellsApart.{Taken}
 
 module _ (limit : ℕ) (asked : Option Item) (before bucket object : List ℕ) (answer : Answer) where
   -- where i is what is deleted, and no other
-  module _ (i : Identity) (is : deleted_by asked ≡ some i) where
+  module _ (i : Identity) (is : deleted_by asked ≡ Some i) where
     the_identifier : (x : (Taken limit asked before bucket object answer)) → x.identifier ≡ i
     the_identifier x = let e = sym x.is_deleted_lem ∙ is in cc
 

@@ -1,7 +1,7 @@
 -- Demand 3, deletion, with the writer's call in it: on the front as long as the count returned, the lookup answers as on the front before
 -- without the versions of the identifier that is deleted.
 use Rattle.std.specs.Prelude.{ℕ, List, ◌≡◌}
-use Rattle.std.proofs.Math.Option.{Option, none, some}
+use Rattle.std.specs.Prelude.{Option, None, Some}
 use Rattle.refusals.specs.Answers as refusals
 use Rattle.refusals.specs.Answers.{refused, granted, is_result}
 use Rattle.identifier.specs.Identity.{Identity}
@@ -21,22 +21,22 @@ use Rattle.current_version.specs.Bytes.{taken_out_of}
 -- ---- the identifier that a call deletes: the one that a part handed in reads as, or the one that was handed in
 
 abbrev pub named_by : refusals.Answer primary.VersionDelete → Option Identity
-named_by (granted v) = some v.identifier
-named_by (refused n) = none
+named_by (granted v) = Some v.identifier
+named_by (refused n) = None
 
 abbrev pub deleted_by : Option Item → Option Identity
-deleted_by none = none
-deleted_by (some (block i d)) = none
-deleted_by (some (version p)) = none
-deleted_by (some (version_delete p)) = named_by (primary.version_delete p)
-deleted_by (some (pack_list p)) = none
-deleted_by (some (deletion i u)) = some i
+deleted_by None = None
+deleted_by (Some (block i d)) = None
+deleted_by (Some (version p)) = None
+deleted_by (Some (version_delete p)) = named_by (primary.version_delete p)
+deleted_by (Some (pack_list p)) = None
+deleted_by (Some (deletion i u)) = Some i
 
 -- ---- the sentence: an answer after a call is that for the pack before, with all `vr` records of the identifier taken out
 
 pub record TakesOut (limit : ℕ) (asked : Option Item) (before bucket object : List ℕ) (answer : Answer) : Type 0 where
   pub identifier : Identity
-  pub is_deleted_lem : deleted_by asked ≡ some identifier
+  pub is_deleted_lem : deleted_by asked ≡ Some identifier
   -- what is left is accepted, and its `vr` and `vd` records can all be read
   pub left : ReadablePack limit (taken_out_of limit identifier before)
   pub same : SameAnswer answer (lookup limit (taken_out_of limit identifier before) bucket object)
@@ -45,7 +45,7 @@ pub record TakesOut (limit : ℕ) (asked : Option Item) (before bucket object : 
 
 pub record Deletes (item : Item) : Type 0 where
   pub identifier : Identity
-  pub is_deleted_lem : deleted_by (some item) ≡ some identifier
+  pub is_deleted_lem : deleted_by (Some item) ≡ Some identifier
   pub held : RecordHeld
   pub is_held : held_of item ≡ granted held
   pub names : held.contents.identifier ≡ identifier

@@ -5,7 +5,7 @@ use Rattle.std.specs.Prelude.{Bool, ◌||◌, ◌⊎◌, ◌≡◌, length, take
 use Rattle.std.proofs.Math.Bool.{true, false}
 use mathlib.Core.List.{List, [], ◌∷◌, map, Memᴰ}
 use Rattle.std.proofs.Math.Logic.{inr, ⊎_elim}
-use Rattle.std.proofs.Math.Option.{none, some}
+use Rattle.std.specs.Prelude.{None, Some}
 use Rattle.std.proofs.Math.Path.{refl}
 use Rattle.std.proofs.Math.Dec.{eqb}
 use Rattle.slices.specs.Logic.{absurd_numbers}
@@ -28,7 +28,7 @@ use Rattle.current_version.specs.Current.{is_looked_at}
 pub record HeaderTells (limit : ℕ) (s : List ℕ) (t : Told) : Type 0 where
   pub size : ℕ
   pub item : pass_over s ≡ whole size
-  pub described : header limit (take size s) ≡ some t
+  pub described : header limit (take size s) ≡ Some t
 
 -- the tags whose primary part has the identifier under `I`, in either shape
 abbrev pub HasShape : ℕ → Type 0
@@ -36,11 +36,11 @@ HasShape tag = (tag ≡ block_tag) ⊎ (tag ≡ pack_list_tag)
 
 -- 17, of a primary part
 pub data NotDescribed (tag : ℕ) (part : List ℕ) : Type 0 where
-  no_shape : HasShape tag → shape_under byte_view part ≡ none → NotDescribed tag part
-  no_texts : is_looked_at tag ≡ true → texts_under byte_view part ≡ none → NotDescribed tag part
-  no_boolean : tag ≡ version_tag → deleted_under byte_view part ≡ none → NotDescribed tag part
-  no_delete_identifier : tag ≡ version_delete_tag → text_under byte_view delete_id_key part ≡ none → NotDescribed tag part
-  no_entries_lem : tag ≡ pack_list_tag → entries_under byte_view part ≡ none → NotDescribed tag part
+  no_shape : HasShape tag → shape_under byte_view part ≡ None → NotDescribed tag part
+  no_texts : is_looked_at tag ≡ true → texts_under byte_view part ≡ None → NotDescribed tag part
+  no_boolean : tag ≡ version_tag → deleted_under byte_view part ≡ None → NotDescribed tag part
+  no_delete_identifier : tag ≡ version_delete_tag → text_under byte_view delete_id_key part ≡ None → NotDescribed tag part
+  no_entries_lem : tag ≡ pack_list_tag → entries_under byte_view part ≡ None → NotDescribed tag part
 
 -- 22, of a primary part
 pub data KeyRepeats (tag : ℕ) (part : List ℕ) : Type 0 where
@@ -51,18 +51,18 @@ pub data KeyRepeats (tag : ℕ) (part : List ℕ) : Type 0 where
 
 -- 18
 pub data BreaksRules (tag : ℕ) (part : List ℕ) : Type 0 where
-  shape_breaks : HasShape tag → (i : Shape) → shape_under byte_view part ≡ some i → identity_by i ≡ none → BreaksRules tag part
-  texts_break : is_looked_at tag ≡ true → (i : Identity) → texts_under byte_view part ≡ some i → is_valid i ≡ false → BreaksRules tag part
-  delete_identifier_breaks : tag ≡ version_delete_tag → (t : List ℕ) → text_under byte_view delete_id_key part ≡ some t → is_ulid t ≡ false
+  shape_breaks : HasShape tag → (i : Shape) → shape_under byte_view part ≡ Some i → identity_by i ≡ None → BreaksRules tag part
+  texts_break : is_looked_at tag ≡ true → (i : Identity) → texts_under byte_view part ≡ Some i → is_valid i ≡ false → BreaksRules tag part
+  delete_identifier_breaks : tag ≡ version_delete_tag → (t : List ℕ) → text_under byte_view delete_id_key part ≡ Some t → is_ulid t ≡ false
       → BreaksRules tag part
-  pack_breaks : tag ≡ pack_list_tag → (es : List Entry) → entries_under byte_view part ≡ some es → (e : Entry) → Memᴰ e es → is_ulid e.pack ≡ false
+  pack_breaks : tag ≡ pack_list_tag → (es : List Entry) → entries_under byte_view part ≡ Some es → (e : Entry) → Memᴰ e es → is_ulid e.pack ≡ false
       → BreaksRules tag part
 
 -- 21
 pub record NotFilled (tag : ℕ) (part : List ℕ) : Type 0 where
   pub is_list : tag ≡ pack_list_tag
   pub entries : List Entry
-  pub there : entries_under byte_view part ≡ some entries
+  pub there : entries_under byte_view part ≡ Some entries
   pub entry : Entry
   pub stands : Memᴰ entry entries
   pub not_filled : is_filled entry ≡ false
@@ -102,7 +102,7 @@ number range_not_filled = 21
 abbrev pub Applies : ℕ → ℕ → List ℕ → Row → Type 0
 Applies limit tag s no_whole_item = pass_over s ≡ cut
 Applies limit tag s depth_17 = pass_over s ≡ too_deep
-Applies limit tag s header_not_described = (n : ℕ) × (pass_over s ≡ whole n) × (header limit (take n s) ≡ none)
+Applies limit tag s header_not_described = (n : ℕ) × (pass_over s ≡ whole n) × (header limit (take n s) ≡ None)
 Applies limit tag s header_key_repeats = (n : ℕ) × (pass_over s ≡ whole n) × (header_repeats byte_view (take n s) ≡ true)
 Applies limit tag s value_not_filled = (t : Told) × (h : HeaderTells limit s t) × (h.size + t.secondary.len ≡ length s → ⊥)
 Applies limit tag s tag_unknown = is_known tag ≡ false

@@ -4,7 +4,7 @@ use Rattle.std.specs.Prelude.{Bool, true, false, cond, ◌≡◌, refl, length}
 use mathlib.Core.List.Memᴰ
 use mathlib.Core.List.{List, [], ◌∷◌, ◌++◌, map, append_assoc, Memᴰ}
 use Rattle.std.proofs.Math.Logic.{⊎_elim}
-use Rattle.std.proofs.Math.Option.{Option, none, some}
+use Rattle.std.specs.Prelude.{Option, None, Some}
 use Rattle.std.proofs.Common.{sym, ◌∙◌, length-append}
 use Rattle.std.proofs.Math.Path.{ap, subst}
 use Rattle.std.proofs.Math.Seq.{drop-append_seam}
@@ -126,15 +126,15 @@ module _ (limit : ℕ) where
 
 -- where the record of an index starts
 unfoldable pub start_at : List Entry → ℕ → Option ℕ
-start_at [] k = none
-start_at (e ∷ es) zero = some e.start
+start_at [] k = None
+start_at (e ∷ es) zero = Some e.start
 start_at (e ∷ es) (suc k) = start_at es k
 
 -- two records start there that have one index, each in its pack
 pub record SameIndex (ds es : List Entry) (p q : ℕ) : Type 0 where
   pub index : ℕ
-  pub first_start : start_at ds index ≡ some p
-  pub second_start : start_at es index ≡ some q
+  pub first_start : start_at ds index ≡ Some p
+  pub second_start : start_at es index ≡ Some q
 
 -- both give nothing; or both find a version, with the same identifier and delete flag, with values alike and at the same index; or both refuse,
 -- with numbers alike and at the same index, or the name, with 20

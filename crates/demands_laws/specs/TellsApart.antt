@@ -1,6 +1,6 @@
 -- The relations of these theorems tell things apart: what differs in one respect alone is not related.
 use Rattle.std.specs.Prelude.{ℕ, suc, List, ◌∷◌, ◌≡◌, refl, length}
-use Rattle.std.proofs.Math.Option.{Option, none}
+use Rattle.std.specs.Prelude.{Option, None}
 use Rattle.std.proofs.Common.{sym, ap, ◌∙◌}
 use Rattle.slices.specs.Logic.{absurd_numbers}
 use Rattle.pack.specs.declared.Entry.{Entry}
@@ -22,7 +22,7 @@ module _ (limit : ℕ) (asked : Option Item) (before bucket object : List ℕ) (
   abbrev pub Taken : Type 0
   Taken = TakesOut limit asked before bucket object answer
 
-  pub nothing_is_deleted : deleted_by asked ≡ none → Taken → ⊥
+  pub nothing_is_deleted : deleted_by asked ≡ None → Taken → ⊥
   nothing_is_deleted is x = let e = sym is ∙ x.is_deleted_lem in absurd_numbers (cc)
 
 -- ---- packs of two sites

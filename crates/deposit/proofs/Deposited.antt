@@ -3,7 +3,7 @@ use Rattle.std.specs.Prelude.{ℕ, ◌≤◌, ◌↔◌, ◌⊎◌, ◌≡◌}
 use mathlib.Core.List.{List, [], ◌∷◌, ◌++◌, Memᴰ}
 use Rattle.std.proofs.Common.{inl, inr, ◌∙◌, arith}
 use Rattle.std.proofs.Math.Logic.{⊎_elim}
-use Rattle.std.proofs.Math.Option.{Option, none, some}
+use Rattle.std.specs.Prelude.{Option, None, Some}
 use Rattle.std.proofs.Math.Path.{refl, ap}
 use Rattle.slices.specs.Logic.{absurd_numbers}
 use Rattle.refusals.specs.Answers as answers
@@ -20,12 +20,12 @@ use Rattle.deposit.proofs.Exactly.{keeps_exactly}
 
 -- ---- one record
 
-pub fault_exactly : (limit tag spare : ℕ) (value : List ℕ) → fault_of limit tag spare value ≡ none ↔ MayBeDeposited limit tag spare value
+pub fault_exactly : (limit tag spare : ℕ) (value : List ℕ) → fault_of limit tag spare value ≡ None ↔ MayBeDeposited limit tag spare value
 unfolding fault_of
 fault_exactly limit tag spare value =
     (is (read_record limit tag value) refl, λ m. ap (by_reading tag spare value) m.reads ∙ (keeps_exactly _ _ _ _ _).1 m.keeps)
   where
-    is : (a : Answer Record) → read_record limit tag value ≡ a → by_reading tag spare value a ≡ none → MayBeDeposited limit tag spare value
+    is : (a : Answer Record) → read_record limit tag value ≡ a → by_reading tag spare value a ≡ None → MayBeDeposited limit tag spare value
     is (answers.granted r) q e = record { read = r; reads = q; known = (read_as limit tag value r q).known; keeps = (keeps_exactly _ _ _ _ _).0 e }
     is (answers.refused n) q e = absurd_numbers (cc)
 
@@ -39,8 +39,8 @@ module _ (limit : ℕ) (s : List ℕ) where
     where
       by : (o : Option ℕ) → entry_fault limit s x ≡ o → or_at o x.start (first_fault limit s es) ≡ whole
           → (first_fault limit s es ≡ whole → Memᴰ e es → EntryMay limit s e) → EntryMay limit s e
-      by none q g later = ⊎_elim (λ (same : e ≡ x). rw same ((fault_exactly limit _ _ _).0 q)) (later g) (mathlib.Core.List.Memᴰ.cases_cons m)
-      by (some n) q g later = absurd_numbers (cc)
+      by None q g later = ⊎_elim (λ (same : e ≡ x). rw same ((fault_exactly limit _ _ _).0 q)) (later g) (mathlib.Core.List.Memᴰ.cases_cons m)
+      by (Some n) q g later = absurd_numbers (cc)
 
   all_may : (es : List Entry) → ((e : Entry) → Memᴰ e es → EntryMay limit s e) → first_fault limit s es ≡ whole
   unfolding first_fault entry_fault
@@ -55,7 +55,7 @@ module _ (limit : ℕ) (s : List ℕ) where
     where
       by : (o : Option ℕ) → entry_fault limit s x ≡ o → or_at o x.start (first_fault limit s es) ≡ refused n at
           → (first_fault limit s es ≡ refused n at → FirstAtFault limit s es n at) → FirstAtFault limit s (x ∷ es) n at
-      by none q g later =
+      by None q g later =
           let rest = later g in
           record {
             before = x ∷ rest.before;
@@ -66,7 +66,7 @@ module _ (limit : ℕ) (s : List ℕ) where
             fault = rest.fault;
             stands = rest.stands;
           }
-      by (some k) q g later =
+      by (Some k) q g later =
           let same : k ≡ n = cc in
           record {
             before = [];
@@ -74,7 +74,7 @@ module _ (limit : ℕ) (s : List ℕ) where
             after = es;
             cut = refl;
             may = λ e m. absurd (mathlib.Core.List.Memᴰ.not-nil m);
-            fault = q ∙ ap some same;
+            fault = q ∙ ap Some same;
             stands = cc;
           }
 
@@ -90,7 +90,7 @@ module _ (limit : ℕ) (s : List ℕ) where
       is (refused n at) q f = absurd_numbers (cc)
 
   fault_first : (before : List Entry) (e : Entry) (after : List Entry) (n : ℕ) → ((x : Entry) → Memᴰ x before → EntryMay limit s x)
-      → entry_fault limit s e ≡ some n → first_fault limit s (before ++ (e ∷ after)) ≡ refused n e.start
+      → entry_fault limit s e ≡ Some n → first_fault limit s (before ++ (e ∷ after)) ≡ refused n e.start
   unfolding first_fault entry_fault
   fault_first [] e after n may f = rw f
   fault_first (x ∷ before) e after n may f =

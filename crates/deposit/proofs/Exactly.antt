@@ -1,7 +1,7 @@
 -- A record keeps the deposit profile exactly when none of the six rows applies.
 use Rattle.std.specs.Prelude.{ℕ, Bool, true, false, not, ◌↔◌, ◌≡◌, refl}
 use mathlib.Core.List.{List}
-use Rattle.std.proofs.Math.Option.{none}
+use Rattle.std.specs.Prelude.{None}
 use borrow.Author.Tests.{eq-eqb, eqb-true}
 use Rattle.slices.specs.Logic.{absurd_numbers, both}
 use Rattle.refusals.specs.Sheet.{lowest, lowest_none}
@@ -18,11 +18,11 @@ kept true e = refl
 kept false e = absurd_numbers (cc)
 
 pub keeps_exactly : (tag spare : ℕ) (header part bucket : List ℕ)
-    → lowest (profile_rows tag spare header part bucket) ≡ none ↔ Keeps tag spare header part bucket
+    → lowest (profile_rows tag spare header part bucket) ≡ None ↔ Keeps tag spare header part bucket
 unfolding profile_rows
 keeps_exactly tag spare header part bucket = (is, back)
   where
-    is : lowest (profile_rows tag spare header part bucket) ≡ none → Keeps tag spare header part bucket
+    is : lowest (profile_rows tag spare header part bucket) ≡ None → Keeps tag spare header part bucket
     is e =
         let r23 = lowest_none _ _ e in
         let r24 = lowest_none _ _ r23.1 in
@@ -43,7 +43,7 @@ keeps_exactly tag spare header part bucket = (is, back)
           named = (bucket_exactly bucket).0 (kept _ r28.0);
         }
 
-    back : Keeps tag spare header part bucket → lowest (profile_rows tag spare header part bucket) ≡ none
+    back : Keeps tag spare header part bucket → lowest (profile_rows tag spare header part bucket) ≡ None
     back k = unfold lowest in rw (
       k.short_header,
       k.short_part,

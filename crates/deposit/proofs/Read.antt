@@ -1,7 +1,7 @@
 -- What is read of a record, as places of the pack, is what its value tells.
 use Prim.Native.Nat.{ℕ}
 use mathlib.Core.List.{List}
-use mathlib.Core.Option.{some}
+use Rattle.std.specs.Prelude.{Some}
 use mathlib.Core.Path.{◌≡◌, refl, sym, ap, ◌∙◌}
 use native.Mathlib.Omega.{arith}
 use Rattle.slices.specs.Logic.{absurd_numbers}
@@ -19,12 +19,12 @@ use Rattle.records.specs.declared.Record as declared
 use Rattle.deposit.specs.Profile.{profile_rows, fault_of}
 
 module _ (limit tag spare : ℕ) (pack : List ℕ) (value : Place) where
-  pub fault_refused : (n : ℕ) → refused n ≡ answer_from value.start (read_record limit tag (part_at pack value)) → some n ≡ fault_of limit tag spare (part_at pack value)
+  pub fault_refused : (n : ℕ) → refused n ≡ answer_from value.start (read_record limit tag (part_at pack value)) → Some n ≡ fault_of limit tag spare (part_at pack value)
   unfolding fault_of
   fault_refused n e = by (read_record limit tag (part_at pack value)) refl e
     where
       by : (a : Answer Record) → read_record limit tag (part_at pack value) ≡ a → refused n ≡ answer_from value.start a
-          → some n ≡ fault_of limit tag spare (part_at pack value)
+          → Some n ≡ fault_of limit tag spare (part_at pack value)
       by (granted r) q f = absurd_numbers (cc)
       by (refused m) q f = let same : n ≡ m = cc in rw (q, same)
 

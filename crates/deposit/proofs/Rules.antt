@@ -2,13 +2,13 @@
 use Prim.Native.Nat.{ℕ, ◌+◌, ◌-◌, ◌≤◌}
 use mathlib.Core.Bool.{true, false, ◌&&◌}
 use mathlib.Core.List.{List}
-use mathlib.Core.Option.{none, some}
+use Rattle.std.specs.Prelude.{Option, None, Some}
+use Rattle.std.specs.Option.{option_eq}
 use mathlib.Core.Path.{◌≡◌, ◌∙◌}
 use native.Mathlib.Omega.{arith}
 use borrow.Author.Tests.{eq-eqb, ne_eqb}
 use lib.Dec.{eqb}
 use lib.ListN.{length, take, drop, length-drop}
-use Rattle.slices.specs.Logic.{absurd_numbers}
 use Rattle.slices.specs.Lists.{part_to_end}
 use Rattle.refusals.specs.Sheet.{lowest}
 use Rattle.endian.specs.Numbers.{big}
@@ -26,19 +26,16 @@ use Rattle.deposit.specs.Packs.{spare_at}
 
 -- ---- bytes 28 and 29
 
-spare_read : (s : List ℕ) (at : ℕ) → at + 32 ≤ length s → number_at big (drop at s) 28 2 ≡ some (spare_at s at)
+spare_read : (s : List ℕ) (at : ℕ) → at + 32 ≤ length s → number_at big (drop at s) 28 2 ≡ Some (spare_at s at)
 unfolding number_at field
 spare_read s at h = rw (within_holds (length (drop at s)) 28 2 (record { narrow = omega arith; inside = omega (arith, length-drop at s) }))
 
 module _ (s : List ℕ) (at : ℕ) (inside : at + 32 ≤ length s) where
-  there : number_at big (take (length s - at) (drop at s)) 28 2 ≡ some (spare_at s at)
+  there : number_at big (take (length s - at) (drop at s)) 28 2 ≡ Some (spare_at s at)
   there = rw part_to_end (spare_read s at inside)
 
-  pub spare_zero : (n : ℕ) → some n ≡ number_at big (take (length s - at) (drop at s)) 28 2 → eqb n 0 ≡ eqb (spare_at s at) 0
-  spare_zero n e = let same : n ≡ spare_at s at = cc (e ∙ there) in rw same
-
-  pub spare_missing : {A : Type 0} → none ≡ number_at big (take (length s - at) (drop at s)) 28 2 → A
-  spare_missing e = absurd_numbers (cc (e ∙ there))
+  pub spare_zero : (r : Option ℕ) → r ≡ number_at big (take (length s - at) (drop at s)) 28 2 → option_eq eqb r (Some 0) ≡ eqb (spare_at s at) 0
+  spare_zero r e = rw (e ∙ there)
 
 -- ---- a block
 
@@ -54,36 +51,36 @@ module _ (tag : ℕ) (header part : List ℕ) where
 -- ---- the six rows
 
 module _ (tag spare : ℕ) (header part bucket : List ℕ) where
-  pub breaks_23 : (all_short header && all_short part) ≡ false → some 23 ≡ lowest (profile_rows tag spare header part bucket)
+  pub breaks_23 : (all_short header && all_short part) ≡ false → Some 23 ≡ lowest (profile_rows tag spare header part bucket)
   unfolding profile_rows lowest
   breaks_23 e = rw e
 
   module _ (kept-23 : (all_short header && all_short part) ≡ true) where
     pub breaks_24 : (are_among header_keys (keys_of header) && are_among (part_keys tag) (keys_of part)) ≡ false
-        → some 24 ≡ lowest (profile_rows tag spare header part bucket)
+        → Some 24 ≡ lowest (profile_rows tag spare header part bucket)
     unfolding profile_rows lowest
     breaks_24 e = rw (kept-23, e)
 
     module _ (kept-24 : (are_among header_keys (keys_of header) && are_among (part_keys tag) (keys_of part)) ≡ true) where
-      pub breaks_25 : are_these (written_keys tag) (keys_of header) ≡ false → some 25 ≡ lowest (profile_rows tag spare header part bucket)
+      pub breaks_25 : are_these (written_keys tag) (keys_of header) ≡ false → Some 25 ≡ lowest (profile_rows tag spare header part bucket)
       unfolding profile_rows lowest
       breaks_25 e = rw (kept-23, kept-24, e)
 
       module _ (kept-25 : are_these (written_keys tag) (keys_of header) ≡ true) where
-        pub breaks_26 : is_block_plain tag header part ≡ false → some 26 ≡ lowest (profile_rows tag spare header part bucket)
+        pub breaks_26 : is_block_plain tag header part ≡ false → Some 26 ≡ lowest (profile_rows tag spare header part bucket)
         unfolding profile_rows lowest
         breaks_26 e = rw (kept-23, kept-24, kept-25, e)
 
         module _ (kept-26 : is_block_plain tag header part ≡ true) where
-          pub breaks_27 : eqb spare 0 ≡ false → some 27 ≡ lowest (profile_rows tag spare header part bucket)
+          pub breaks_27 : eqb spare 0 ≡ false → Some 27 ≡ lowest (profile_rows tag spare header part bucket)
           unfolding profile_rows lowest
           breaks_27 e = rw (kept-23, kept-24, kept-25, kept-26, e)
 
           module _ (kept-27 : eqb spare 0 ≡ true) where
-            pub breaks_28 : is_bucket_name bucket ≡ false → some 28 ≡ lowest (profile_rows tag spare header part bucket)
+            pub breaks_28 : is_bucket_name bucket ≡ false → Some 28 ≡ lowest (profile_rows tag spare header part bucket)
             unfolding profile_rows lowest
             breaks_28 e = rw (kept-23, kept-24, kept-25, kept-26, kept-27, e)
 
-            pub keeps_all : is_bucket_name bucket ≡ true → none ≡ lowest (profile_rows tag spare header part bucket)
+            pub keeps_all : is_bucket_name bucket ≡ true → None ≡ lowest (profile_rows tag spare header part bucket)
             unfolding profile_rows lowest
             keeps_all e = rw (kept-23, kept-24, kept-25, kept-26, kept-27, e)

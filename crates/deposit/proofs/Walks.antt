@@ -1,7 +1,7 @@
 -- How the code walks a checked pack: what the whole gives is what the rest gives from here.
 use Prim.Native.Nat.{ℕ, ◌+◌, ◌≤◌, ◌<◌}
 use mathlib.Core.List.{List, ◌∷◌}
-use mathlib.Core.Option.{Option, none, some}
+use Rattle.std.specs.Prelude.{Option, None, Some}
 use mathlib.Core.Path.{◌≡◌, refl, sym, ap, ◌∙◌}
 use native.Mathlib.Omega.{arith}
 use lib.ListN.{length, drop, length-drop}
@@ -63,7 +63,7 @@ module _ (s : List ℕ) where
     abbrev FaultHere : Option ℕ → Type 0
     FaultHere o = o ≡ fault_of pack_limit p.header.tag (spare_at s at) (value_at s at p.header.length)
 
-    pub walks_on : FaultHere none → Walks s p.next
+    pub walks_on : FaultHere None → Walks s p.next
     unfolding first_fault entry_fault
     walks_on e = record {
       checked = next.checked;
@@ -71,7 +71,7 @@ module _ (s : List ℕ) where
       inside = next.inside;
     }
 
-    pub walks_fault : (n : ℕ) → FaultHere (some n) → first_fault pack_limit s (records 0 0 s).entries ≡ refused n at
+    pub walks_fault : (n : ℕ) → FaultHere (Some n) → first_fault pack_limit s (records 0 0 s).entries ≡ refused n at
     unfolding first_fault entry_fault
     walks_fault n e = w.so_far ∙ ap (first_fault pack_limit s) next.first ∙ rw (← e)
 

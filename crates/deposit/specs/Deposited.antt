@@ -3,7 +3,7 @@
 use Rattle.std.specs.Prelude.{ℕ, ◌≤◌, true, ◌≡◌, length}
 use mathlib.Core.List.{List, ◌∷◌, ◌++◌, Memᴰ}
 use Rattle.std.proofs.Common.{arith}
-use Rattle.std.proofs.Math.Option.{some}
+use Rattle.std.specs.Prelude.{Some}
 use Rattle.refusals.specs.Answers as answers
 use Rattle.refusals.specs.Answers.{Answer}
 use Rattle.pack.specs.declared.Entry.{Entry}
@@ -35,7 +35,7 @@ module _ (limit : ℕ) (s : List ℕ) where
     pub after : List Entry
     pub cut : es ≡ before ++ (entry ∷ after)
     pub may : (e : Entry) → Memᴰ e before → EntryMay e
-    pub fault : entry_fault limit s entry ≡ some n
+    pub fault : entry_fault limit s entry ≡ Some n
     pub stands : entry.start ≡ at
 
   -- ---- what is told lies within the limit on a pack's length

@@ -1,7 +1,7 @@
 -- When a record keeps the deposit profile, without computation; and which number is given where it does not.
 use Rattle.std.specs.Prelude.{ℕ, Bool, true, false, cond, ◌&&◌, ◌↔◌, ◌≡◌, refl, eqb}
 use mathlib.Core.List.{List, [], ◌∷◌, map, Memᴰ}
-use Rattle.std.proofs.Math.Option.{Option, none, some}
+use Rattle.std.specs.Prelude.{Option, None, Some}
 use Rattle.std.proofs.Common.{ap, ◌∙◌}
 use borrow.Author.Tests.{eq-eqb, eqb-true}
 use Rattle.slices.specs.Logic.{absurd_numbers, both}
@@ -24,16 +24,16 @@ pub record LengthAlone (header : List ℕ) : Type 0 where
   pub list : List ℕ
   pub map_in : List ℕ
   pub under : under_whole secondary_key header ≡ found list
-  pub items : byte_view.items list ≡ some (map_in ∷ [])
-  pub keys : keys_of map_in ≡ some length_key ∷ []
+  pub items : byte_view.items list ≡ Some (map_in ∷ [])
+  pub keys : keys_of map_in ≡ Some length_key ∷ []
 
 -- `I` is the only key, and under it stands a text
 pub record IdentifierAlone (part : List ℕ) : Type 0 where
-  pub keys : keys_of part ≡ some identifier_key ∷ []
+  pub keys : keys_of part ≡ Some identifier_key ∷ []
   pub item : List ℕ
   pub text : List ℕ
   pub under : under_whole identifier_key part ≡ found item
-  pub is_text_lem : text_at item ≡ some text
+  pub is_text_lem : text_at item ≡ Some text
 
 pub length_exactly : (header : List ℕ) → has_length_alone header ≡ true ↔ LengthAlone header
 unfolding has_length_alone
@@ -41,10 +41,10 @@ length_exactly header = (is (under_whole secondary_key header) refl, back)
   where
     items : (l : List ℕ) → under_whole secondary_key header ≡ found l → (o : Option (List (List ℕ))) → byte_view.items l ≡ o
         → is_one_map (length_key ∷ []) o ≡ true → LengthAlone header
-    items l u (some (m ∷ [])) i e = record { list = l; map_in = m; under = u; items = i; keys = (these_exactly (length_key ∷ []) (keys_of m)).0 e }
-    items l u (some []) i e = absurd_numbers (cc)
-    items l u (some (m ∷ n ∷ ms)) i e = absurd_numbers (cc)
-    items l u none i e = absurd_numbers (cc)
+    items l u (Some (m ∷ [])) i e = record { list = l; map_in = m; under = u; items = i; keys = (these_exactly (length_key ∷ []) (keys_of m)).0 e }
+    items l u (Some []) i e = absurd_numbers (cc)
+    items l u (Some (m ∷ n ∷ ms)) i e = absurd_numbers (cc)
+    items l u None i e = absurd_numbers (cc)
 
     is : (o : Under (List ℕ)) → under_whole secondary_key header ≡ o → is_one_map_under (length_key ∷ []) o ≡ true → LengthAlone header
     is (found l) u e = items l u (byte_view.items l) refl e
@@ -59,12 +59,12 @@ pub identifier_exactly : (part : List ℕ) → has_identifier_alone part ≡ tru
 unfolding has_identifier_alone
 identifier_exactly part = (is, back)
   where
-    text : keys_of part ≡ some identifier_key ∷ [] → (i : List ℕ) → under_whole identifier_key part ≡ found i → (o : Option (List ℕ)) → text_at i ≡ o
+    text : keys_of part ≡ Some identifier_key ∷ [] → (i : List ℕ) → under_whole identifier_key part ≡ found i → (o : Option (List ℕ)) → text_at i ≡ o
         → is_there o ≡ true → IdentifierAlone part
-    text k i u (some t) q e = record { keys = k; item = i; text = t; under = u; is_text_lem = q }
-    text k i u none q e = absurd_numbers (cc)
+    text k i u (Some t) q e = record { keys = k; item = i; text = t; under = u; is_text_lem = q }
+    text k i u None q e = absurd_numbers (cc)
 
-    under : keys_of part ≡ some identifier_key ∷ [] → (o : Under (List ℕ)) → under_whole identifier_key part ≡ o → is_text_under o ≡ true → IdentifierAlone part
+    under : keys_of part ≡ Some identifier_key ∷ [] → (o : Under (List ℕ)) → under_whole identifier_key part ≡ o → is_text_under o ≡ true → IdentifierAlone part
     under k (found i) u e = text k i u (text_at i) refl e
     under k missing u e = absurd_numbers (cc)
     under k broken u e = absurd_numbers (cc)
@@ -103,7 +103,7 @@ pub record Keeps (tag spare : ℕ) (header part bucket : List ℕ) : Type 0 wher
   pub short_part : all_short part ≡ true
   pub given_header : (key : Key) → Memᴰ key (keys_of header) → Listed header_keys key
   pub given_part : (key : Key) → Memᴰ key (keys_of part) → Listed (part_keys tag) key
-  pub order : keys_of header ≡ map some (written_keys tag)
+  pub order : keys_of header ≡ map Some (written_keys tag)
   pub plain : tag ≡ block_tag → PlainBlock header part
   pub spare_zero : spare ≡ 0
   pub named : BucketName bucket

@@ -1,6 +1,6 @@
 -- A pack checked against the deposit profile: 1 to 8 for the whole pack, and then the first record at fault.
 use Rattle.std.specs.Prelude.{ℕ, ◌+◌, List, [], ◌∷◌, take, drop}
-use Rattle.std.proofs.Math.Option.{Option, none, some}
+use Rattle.std.specs.Prelude.{Option, None, Some}
 use Rattle.tlv.specs.Layout.{field}
 use Rattle.pack.specs.declared.Entry.{Entry}
 use Rattle.pack.specs.Reading.{Reading, Ending, whole, refused, reading, Outcome, counted, outcome}
@@ -17,8 +17,8 @@ unfoldable pub entry_fault : ℕ → List ℕ → Entry → Option ℕ
 entry_fault limit s e = fault_of limit e.tag (spare_at s e.start) (value_at s e.start e.length)
 
 abbrev pub or_at : Option ℕ → ℕ → Ending → Ending
-or_at none start later = later
-or_at (some n) start later = refused n start
+or_at None start later = later
+or_at (Some n) start later = refused n start
 
 -- the first of these records that is at fault, with its start
 unfoldable pub first_fault : ℕ → List ℕ → List Entry → Ending

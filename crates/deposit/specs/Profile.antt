@@ -1,6 +1,6 @@
 -- The deposit profile (request 9): a narrower rule for the records of packs that are deposited.
 use Rattle.std.specs.Prelude.{ℕ, Bool, true, cond, not, ◌&&◌, List, [], ◌∷◌, eqb}
-use Rattle.std.proofs.Math.Option.{Option, some}
+use Rattle.std.specs.Prelude.{Option, Some}
 use Rattle.refusals.specs.Sheet.{Row, lowest}
 use Rattle.refusals.specs.Answers.{Answer, refused, granted}
 use Rattle.msgpack_forms.specs.Items.{all_short}
@@ -30,7 +30,7 @@ profile_rows tag spare header part bucket =
 -- all that the sheet gives for a record comes first
 abbrev pub by_reading : (tag spare : ℕ) → List ℕ → Answer Record → Option ℕ
 by_reading tag spare value (granted r) = lowest (profile_rows tag spare value (primary_in value r.told) r.contents.identifier.bucket)
-by_reading tag spare value (refused n) = some n
+by_reading tag spare value (refused n) = Some n
 
 -- why a record with this tag, these bytes 28 and 29 and this value may not be deposited; none, where it may
 unfoldable pub fault_of : (limit tag spare : ℕ) → List ℕ → Option ℕ

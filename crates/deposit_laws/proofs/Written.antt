@@ -2,7 +2,7 @@
 use Rattle.std.specs.Prelude.{ℕ, ◌^◌, ◌≤◌, ◌<◌, ◌≡◌, length}
 use Rattle.std.proofs.Math.Bool.{true}
 use mathlib.Core.List.{List, [], ◌∷◌, ◌++◌, append-nil}
-use Rattle.std.proofs.Math.Option.{Option, none, some}
+use Rattle.std.specs.Prelude.{Option, None, Some}
 use Rattle.std.proofs.Math.Path.{refl, ap}
 use Rattle.std.proofs.Common.{◌∙◌, arith, length-append}
 use Rattle.slices.specs.Bytes.{AllBytes, cons_bytes, append_bytes, same_bytes}
@@ -52,13 +52,13 @@ use Rattle.deposit_laws.specs.Written.{PartKeeps, HandedKeeps, Depositable, each
 rows_kept : (tag : ℕ) (header part bucket : List ℕ) → all_short header ≡ true → all_short part ≡ true
     → are_among header_keys (keys_of header) ≡ true → are_among (part_keys tag) (keys_of part) ≡ true
     → are_these (written_keys tag) (keys_of header) ≡ true → is_block_plain tag header part ≡ true → is_bucket_name bucket ≡ true
-    → lowest (profile_rows tag 0 header part bucket) ≡ none
+    → lowest (profile_rows tag 0 header part bucket) ≡ None
 unfolding profile_rows lowest
 rows_kept tag header part bucket sh sp gh gp o b n = rw (sh, sp, gh, gp, o, b, n)
 
 -- a record that reads as h
 fault_none : (limit tag : ℕ) (s : List ℕ) (h : RecordHeld) → record_in s (read_record limit tag s) ≡ granted h
-    → lowest (profile_rows tag 0 s h.held.primary h.contents.identifier.bucket) ≡ none → fault_of limit tag 0 s ≡ none
+    → lowest (profile_rows tag 0 s h.held.primary h.contents.identifier.bucket) ≡ None → fault_of limit tag 0 s ≡ None
 unfolding fault_of
 fault_none limit tag s h reads kept =
     let f = is_held s (read_record limit tag s) h reads in
@@ -72,11 +72,11 @@ module _ (tag : ℕ) (p : List ℕ) (bytes : AllBytes p) (size : length p < 2 ^ 
   plain_shows : Shows (part_value p) (values.plain_header p)
   plain_shows = shown (part_value_encodes p bytes size) (omega arith)
 
-  plain_keys : keys_of (part_value p) ≡ some primary_key ∷ []
+  plain_keys : keys_of (part_value p) ≡ Some primary_key ∷ []
   plain_keys = keys_read plain_shows
 
   plain_rows : (bucket : List ℕ) → written_keys tag ≡ primary_key ∷ [] → is_block_plain tag (part_value p) p ≡ true → PartKeeps tag p → is_bucket_name bucket ≡ true
-      → lowest (profile_rows tag 0 (part_value p) p bucket) ≡ none
+      → lowest (profile_rows tag 0 (part_value p) p bucket) ≡ None
   unfolding are_among is_one_of are_these same_bytes
   plain_rows bucket order other k n =
       rows_kept tag (part_value p) p bucket (rw append-nil at (part_value_short p bytes size [])) k.0 (rw plain_keys) k.1 (rw (plain_keys, order)) other n
@@ -101,10 +101,10 @@ module _ (i : Identity) (d : List ℕ) (v : is_valid i ≡ true) (bytes : AllByt
       shallow = omega arith;
     }
 
-    header_keys_lem : keys_of (block_value i d) ≡ some secondary_key ∷ some primary_key ∷ []
+    header_keys_lem : keys_of (block_value i d) ≡ Some secondary_key ∷ Some primary_key ∷ []
     header_keys_lem = keys_read header_shows
 
-    part_keys_lem : keys_of (block_part i) ≡ some identifier_key ∷ []
+    part_keys_lem : keys_of (block_part i) ≡ Some identifier_key ∷ []
     part_keys_lem = keys_read part_shows
 
     length_alone : has_length_alone (block_value i d) ≡ true
@@ -115,11 +115,11 @@ module _ (i : Identity) (d : List ℕ) (v : is_valid i ≡ true) (bytes : AllByt
         inner : Value
         inner = Map (pair (Text length_key) (Integer (plus (length d))) no_pairs)
 
-        items : (o : Option (List (List ℕ))) → Both (Each Shows) o (some (inner ∷ [])) → is_one_map (length_key ∷ []) o ≡ true
-        items (some []) (both_there r) = absurd (omega (arith, each_length r))
-        items (some (m ∷ [])) (both_there (and_each z r)) = rw (keys_read z)
-        items (some (m ∷ n ∷ ms)) (both_there r) = absurd (omega (arith, each_length r))
-        items none z = elim z [ ]
+        items : (o : Option (List (List ℕ))) → Both (Each Shows) o (Some (inner ∷ [])) → is_one_map (length_key ∷ []) o ≡ true
+        items (Some []) (both_there r) = absurd (omega (arith, each_length r))
+        items (Some (m ∷ [])) (both_there (and_each z r)) = rw (keys_read z)
+        items (Some (m ∷ n ∷ ms)) (both_there r) = absurd (omega (arith, each_length r))
+        items None z = elim z [ ]
 
         by : (o : Under (List ℕ)) → SameUnder Shows o (found (Array (value inner no_values_lem))) → is_one_map_under (length_key ∷ []) o ≡ true
         by (found l) (both_found y) = items (byte_view.items l) (bytes_alike.items y)
@@ -136,7 +136,7 @@ module _ (i : Identity) (d : List ℕ) (v : is_valid i ≡ true) (bytes : AllByt
         by missing z = elim z [ ]
         by broken z = elim z [ ]
 
-    block_rows : (bucket : List ℕ) → is_bucket_name bucket ≡ true → lowest (profile_rows block_tag 0 (block_value i d) (block_part i) bucket) ≡ none
+    block_rows : (bucket : List ℕ) → is_bucket_name bucket ≡ true → lowest (profile_rows block_tag 0 (block_value i d) (block_part i) bucket) ≡ None
     unfolding are_among is_one_of are_these same_bytes written_keys part_keys is_block_plain
     block_rows bucket n =
         rows_kept block_tag (block_value i d) (block_part i) bucket short_value (rw append-nil at (block_part_short i v bytes []))
@@ -188,7 +188,7 @@ part_longer i d = simp length-append (omega arith)
 
 module _ (limit : ℕ) (small : limit < 2 ^ 32) where
   item_rows : (item : Item) → AreBytes item → admitted item ≡ true → length (value_of item) ≤ limit → HandedKeeps item
-      → (bucket : List ℕ) → is_bucket_name bucket ≡ true → lowest (profile_rows (tag_of item) 0 (value_of item) (primary_of item) bucket) ≡ none
+      → (bucket : List ℕ) → is_bucket_name bucket ≡ true → lowest (profile_rows (tag_of item) 0 (value_of item) (primary_of item) bucket) ≡ None
   unfolding written_keys is_block_plain
   item_rows (block i d) b a l k bucket n =
       block_rows i d a (composite_bytes i b.0) (omega (arith, content_within (block i d))) (omega (arith, part_longer i d)) bucket n
@@ -202,7 +202,7 @@ module _ (limit : ℕ) (small : limit < 2 ^ 32) where
 
   -- what the writer writes for such an item may be deposited
   pub item_passes : (item : Item) → AreBytes item → admitted item ≡ true → length (value_of item) ≤ limit → Depositable item
-      → fault_of limit (tag_of item) 0 (value_of item) ≡ none
+      → fault_of limit (tag_of item) 0 (value_of item) ≡ None
   item_passes item b a l dep =
       let h = means item a in
       let reads = item_reads limit small item b a l ∙ h.1 in

@@ -1,7 +1,7 @@
 -- A deposited block is, byte for byte, what our writer writes for its identifier and data; so equal identifiers and equal data are equal bytes (request 9).
 use Rattle.std.specs.Prelude.{ℕ, ◌^◌, ◌≤◌, ◌<◌, Bool, true, false, cond, List, [], ◌∷◌, ◌++◌, ◌≡◌, refl, leb, eqb, length, take, drop}
 use Rattle.std.proofs.Common.{append-nil, sym, ap, ap₂, subst, ◌∙◌, arith, eqb-true, take-append-drop, length-take, length-drop, take_all}
-use Rattle.std.proofs.Math.Option.{Option, none, some}
+use Rattle.std.specs.Prelude.{Option, None, Some}
 use Rattle.slices.specs.Bytes.{AllBytes, take_bytes, drop_bytes, same_bytes}
 use Rattle.slices.specs.Logic.{absurd_numbers}
 use Rattle.refusals.specs.Answers.{Answer, refused, granted, or_refused}
@@ -43,7 +43,7 @@ use Rattle.deposit_laws.specs.Written.{each_length}
 
 -- ---- a value by what it is
 
-text_is : (v : Value) (t : List ℕ) → as_text v ≡ some t → v ≡ Text t
+text_is : (v : Value) (t : List ℕ) → as_text v ≡ Some t → v ≡ Text t
 text_is Nil t e = absurd_numbers (cc)
 text_is (Boolean b) t e = absurd_numbers (cc)
 text_is (Integer i) t e = absurd_numbers (cc)
@@ -54,7 +54,7 @@ text_is (Extension n x) t e = absurd_numbers (cc)
 text_is (Array vs) t e = absurd_numbers (cc)
 text_is (Map ps) t e = absurd_numbers (cc)
 
-integer_is : (v : Value) (i : Int) → as_integer v ≡ some i → v ≡ Integer i
+integer_is : (v : Value) (i : Int) → as_integer v ≡ Some i → v ≡ Integer i
 integer_is Nil i e = absurd_numbers (cc)
 integer_is (Boolean b) i e = absurd_numbers (cc)
 integer_is (Integer j) i e = let same : j ≡ i = cc in ap Integer same
@@ -65,7 +65,7 @@ integer_is (Extension n x) i e = absurd_numbers (cc)
 integer_is (Array vs) i e = absurd_numbers (cc)
 integer_is (Map ps) i e = absurd_numbers (cc)
 
-binary_is : (v : Value) (p : List ℕ) → as_binary v ≡ some p → v ≡ Binary p
+binary_is : (v : Value) (p : List ℕ) → as_binary v ≡ Some p → v ≡ Binary p
 binary_is Nil p e = absurd_numbers (cc)
 binary_is (Boolean b) p e = absurd_numbers (cc)
 binary_is (Integer i) p e = absurd_numbers (cc)
@@ -76,7 +76,7 @@ binary_is (Extension n x) p e = absurd_numbers (cc)
 binary_is (Array vs) p e = absurd_numbers (cc)
 binary_is (Map ps) p e = absurd_numbers (cc)
 
-array_is : (v : Value) (vs : Values) → as_array v ≡ some vs → v ≡ Array vs
+array_is : (v : Value) (vs : Values) → as_array v ≡ Some vs → v ≡ Array vs
 array_is Nil vs e = absurd_numbers (cc)
 array_is (Boolean b) vs e = absurd_numbers (cc)
 array_is (Integer i) vs e = absurd_numbers (cc)
@@ -87,7 +87,7 @@ array_is (Extension n x) vs e = absurd_numbers (cc)
 array_is (Array ws) vs e = let same : ws ≡ vs = cc in ap Array same
 array_is (Map ps) vs e = absurd_numbers (cc)
 
-map_is : (v : Value) (ps : Pairs) → as_map v ≡ some ps → v ≡ Map ps
+map_is : (v : Value) (ps : Pairs) → as_map v ≡ Some ps → v ≡ Map ps
 map_is Nil ps e = absurd_numbers (cc)
 map_is (Boolean b) ps e = absurd_numbers (cc)
 map_is (Integer i) ps e = absurd_numbers (cc)
@@ -105,16 +105,16 @@ record OneKey (a : List ℕ) (v : Value) : Type 0 where
   held : Value
   is : v ≡ Map (pair (Text a) held no_pairs)
 
-one_key : (a : List ℕ) (v : Value) → keys_of_map (as_map v) ≡ some a ∷ [] → OneKey a v
+one_key : (a : List ℕ) (v : Value) → keys_of_map (as_map v) ≡ Some a ∷ [] → OneKey a v
 one_key a v e = by (as_map v) refl e
   where
-    by : (o : Option Pairs) → as_map v ≡ o → keys_of_map o ≡ some a ∷ [] → OneKey a v
-    by none q f = absurd_numbers (cc)
-    by (some no_pairs) q f = absurd_numbers (cc)
-    by (some (pair k x no_pairs)) q f =
-        let key : as_text k ≡ some a = cc in
+    by : (o : Option Pairs) → as_map v ≡ o → keys_of_map o ≡ Some a ∷ [] → OneKey a v
+    by None q f = absurd_numbers (cc)
+    by (Some no_pairs) q f = absurd_numbers (cc)
+    by (Some (pair k x no_pairs)) q f =
+        let key : as_text k ≡ Some a = cc in
         record { held = x; is = map_is v _ q ∙ ap (λ w. Map (pair w x no_pairs)) (text_is k a key) }
-    by (some (pair k x (pair l y ps))) q f = absurd_numbers (cc)
+    by (Some (pair k x (pair l y ps))) q f = absurd_numbers (cc)
 
 -- of two
 record TwoKeys (a b : List ℕ) (v : Value) : Type 0 where
@@ -122,22 +122,22 @@ record TwoKeys (a b : List ℕ) (v : Value) : Type 0 where
   second : Value
   is : v ≡ Map (pair (Text a) first (pair (Text b) second no_pairs))
 
-two_keys : (a b : List ℕ) (v : Value) → keys_of_map (as_map v) ≡ some a ∷ some b ∷ [] → TwoKeys a b v
+two_keys : (a b : List ℕ) (v : Value) → keys_of_map (as_map v) ≡ Some a ∷ Some b ∷ [] → TwoKeys a b v
 two_keys a b v e = by (as_map v) refl e
   where
-    by : (o : Option Pairs) → as_map v ≡ o → keys_of_map o ≡ some a ∷ some b ∷ [] → TwoKeys a b v
-    by none q f = absurd_numbers (cc)
-    by (some no_pairs) q f = absurd_numbers (cc)
-    by (some (pair k x no_pairs)) q f = absurd_numbers (cc)
-    by (some (pair k x (pair l y no_pairs))) q f =
-        let key : as_text k ≡ some a = cc in
-        let other : as_text l ≡ some b = cc in
+    by : (o : Option Pairs) → as_map v ≡ o → keys_of_map o ≡ Some a ∷ Some b ∷ [] → TwoKeys a b v
+    by None q f = absurd_numbers (cc)
+    by (Some no_pairs) q f = absurd_numbers (cc)
+    by (Some (pair k x no_pairs)) q f = absurd_numbers (cc)
+    by (Some (pair k x (pair l y no_pairs))) q f =
+        let key : as_text k ≡ Some a = cc in
+        let other : as_text l ≡ Some b = cc in
         record {
           first = x;
           second = y;
           is = map_is v _ q ∙ ap₂ (λ w u. Map (pair w x (pair u y no_pairs))) (text_is k a key) (text_is l b other);
         }
-    by (some (pair k x (pair l y (pair m z ps)))) q f = absurd_numbers (cc)
+    by (Some (pair k x (pair l y (pair m z ps)))) q f = absurd_numbers (cc)
 
 -- ---- the header: what it holds settles what stands in it
 
@@ -154,7 +154,7 @@ header_holds : (limit : ℕ) (z y : Value) (rest : List ℕ) (h : Held) → hold
 unfolding holds header header_repeats repeats telling alone with_list with_map natural_under is_there same_bytes
 header_holds limit z y rest h e = by (leb (depth (header_of z y)) depth_allowed) (as_binary y) refl (as_integer z) refl e
   where
-    filled : (p : List ℕ) (l : ℕ) → as_binary y ≡ some p → as_integer z ≡ some (plus l) → (f : Bool) → eqb l (length rest) ≡ f
+    filled : (p : List ℕ) (l : ℕ) → as_binary y ≡ Some p → as_integer z ≡ Some (plus l) → (f : Bool) → eqb l (length rest) ≡ f
         → cond f (granted (record { primary = p; secondary = rest; told = telling_with (telling_alone 0 0 false) l 0 false })) (refused 12) ≡ granted h
         → HeaderHolds y z rest h
     filled p l b j true q g =
@@ -166,20 +166,20 @@ header_holds limit z y rest h e = by (leb (depth (header_of z y)) depth_allowed)
         }
     filled p l b j false q g = absurd_numbers (cc)
 
-    within : (p : List ℕ) (l : ℕ) → as_binary y ≡ some p → as_integer z ≡ some (plus l) → (t : Bool)
-        → filled_by rest (tested false (header_by (some p) (only_if t (some (telling_with (telling_alone 0 0 false) l 0 false))))) ≡ granted h
+    within : (p : List ℕ) (l : ℕ) → as_binary y ≡ Some p → as_integer z ≡ Some (plus l) → (t : Bool)
+        → filled_by rest (tested false (header_by (Some p) (only_if t (Some (telling_with (telling_alone 0 0 false) l 0 false))))) ≡ granted h
         → HeaderHolds y z rest h
     within p l b j true g = filled p l b j (eqb l (length rest)) refl g
     within p l b j false g = absurd_numbers (cc)
 
     by : (d : Bool) (b : Option (List ℕ)) → as_binary y ≡ b → (j : Option Int) → as_integer z ≡ j
         → cond d (filled_by rest (tested false (header_by b (if_there (at_least_zero j) λ l.
-        only_if (leb l limit) (some (telling_with (telling_alone 0 0 false) l 0 false)))))) (refused 10) ≡ granted h → HeaderHolds y z rest h
+        only_if (leb l limit) (Some (telling_with (telling_alone 0 0 false) l 0 false)))))) (refused 10) ≡ granted h → HeaderHolds y z rest h
     by false b pb j pj g = absurd_numbers (cc)
-    by true none pb j pj g = absurd_numbers (cc)
-    by true (some p) pb none pj g = absurd_numbers (cc)
-    by true (some p) pb (some (minus n)) pj g = absurd_numbers (cc)
-    by true (some p) pb (some (plus l)) pj g = within p l pb pj (leb l limit) g
+    by true None pb j pj g = absurd_numbers (cc)
+    by true (Some p) pb None pj g = absurd_numbers (cc)
+    by true (Some p) pb (Some (minus n)) pj g = absurd_numbers (cc)
+    by true (Some p) pb (Some (plus l)) pj g = within p l pb pj (leb l limit) g
 
 -- ---- the value of an item that is passed over
 
@@ -241,8 +241,8 @@ unfolding block block_repeats repeats shape_under shape_at same_bytes
 composite_is t i e = by (identity_in t) refl e
   where
     by : (o : Option Identity) → identity_in t ≡ o → or_refused 18 o granted ≡ granted i → (is_valid i ≡ true) × (t ≡ composite_text i)
-    by (some j) q f = let same : j ≡ i = cc in let r = reads_text t i (q ∙ ap some same) in (r.0, sym r.1)
-    by none q f = absurd_numbers (cc)
+    by (Some j) q f = let same : j ≡ i = cc in let r = reads_text t i (q ∙ ap Some same) in (r.0, sym r.1)
+    by None q f = absurd_numbers (cc)
 
 record PartIs (part : List ℕ) (i : Identity) : Type 0 where
   valid : is_valid i ≡ true
@@ -283,8 +283,8 @@ part_is part c bytes reads short only =
 -- ---- what stands under `s`
 
 abbrev is_some : {A : Type 0} → Option A → Bool
-is_some (some a) = true
-is_some none = false
+is_some (Some a) = true
+is_some None = false
 
 -- both are there, or neither is
 both_there_too : {A B : Type 0} {R : A → B → Type 0} {a : Option A} {b : Option B} → Both R a b → is_some a ≡ is_some b
@@ -297,13 +297,13 @@ record ListIs (x : Value) : Type 0 where
   is : x ≡ Array (value (Map (pair (Text length_key) held no_pairs)) no_values_lem)
 
 module _ (s : List ℕ) (only : LengthAlone s) where
-  one_item : (x : Value) (q : Option Values) → as_array x ≡ q → Both (Each Shows) (some (only.map_in ∷ [])) (over list_of q) → ListIs x
-  one_item x none a y = absurd_numbers (cc (both_there_too y))
-  one_item x (some no_values_lem) a (both_there r) = absurd (omega (arith, each_length r))
-  one_item x (some (value w no_values_lem)) a (both_there (and_each z r)) =
+  one_item : (x : Value) (q : Option Values) → as_array x ≡ q → Both (Each Shows) (Some (only.map_in ∷ [])) (over list_of q) → ListIs x
+  one_item x None a y = absurd_numbers (cc (both_there_too y))
+  one_item x (Some no_values_lem) a (both_there r) = absurd (omega (arith, each_length r))
+  one_item x (Some (value w no_values_lem)) a (both_there (and_each z r)) =
       let k = one_key length_key w (sym (keys_read z) ∙ only.keys) in
       record { held = k.held; is = array_is x _ a ∙ ap (λ u. Array (value u no_values_lem)) k.is }
-  one_item x (some (value w (value u vs))) a (both_there r) = absurd (omega (arith, each_length r))
+  one_item x (Some (value w (value u vs))) a (both_there r) = absurd (omega (arith, each_length r))
 
   list_is : (x : Value) (o : Under (List ℕ)) → o ≡ found only.list → SameUnder Shows o (found x) → ListIs x
   list_is x (found l) p (both_found z) =

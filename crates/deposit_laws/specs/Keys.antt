@@ -1,7 +1,7 @@
 -- The keys of a map, and what stands under them, in bytes are those of the value that the bytes encode.
 use Rattle.std.specs.Prelude.{ℕ, suc, ◌+◌, ◌≤◌, List, [], ◌∷◌, ◌++◌, ◌≡◌, refl, length, drop}
 use Rattle.std.proofs.Common.{append_assoc, sym, ap, ap₂, ◌∙◌, arith, drop-drop}
-use Rattle.std.proofs.Math.Option.{Option, none, some}
+use Rattle.std.specs.Prelude.{Option, None, Some}
 use Rattle.std.proofs.Math.Seq.{drop-append_seam}
 use Rattle.slices.specs.Logic.{absurd_numbers}
 use Rattle.msgpack.specs.Items.{pass_item, depth_allowed}
@@ -23,8 +23,8 @@ keys_in no_pairs = []
 keys_in (pair k v ps) = as_text k ∷ keys_in ps
 
 abbrev pub keys_of_map : Option Pairs → List Key
-keys_of_map (some ps) = keys_in ps
-keys_of_map none = none ∷ []
+keys_of_map (Some ps) = keys_in ps
+keys_of_map None = None ∷ []
 
 text_there : {v : Value} {e : List ℕ} → Encodes v e → (s rest : List ℕ) → s ≡ e ++ rest → text_at s ≡ as_text v
 unfolding text_at
@@ -50,7 +50,7 @@ pairs_keys s (next_pair {k = k} {e = e} {f = f} {g = g} x z xs) d from rest h =
     (ap₂ (λ (t : Key) (ts : List Key). t ∷ ts) text more)
 
 -- what a map holds stands less deep
-map_depth : {v : Value} {e : List ℕ} → Encodes v e → (ps : Pairs) → as_map v ≡ some ps → depth v ≡ suc (pairs_depth ps)
+map_depth : {v : Value} {e : List ℕ} → Encodes v e → (ps : Pairs) → as_map v ≡ Some ps → depth v ≡ suc (pairs_depth ps)
 map_depth (scalar x) ps q = absurd_numbers (cc (scalar_no_map x))
 map_depth (array x xs) ps q = absurd_numbers (cc)
 map_depth (map {ps = qs} x xs) ps q = let is : qs ≡ ps = cc in rw is
@@ -59,7 +59,7 @@ pub keys_read : {s : List ℕ} {v : Value} → Shows s v → keys_of s ≡ keys_
 unfolding keys_of
 keys_read {s} {v} x = rw x.is (by (as_map v) (map_depth x.encodes) (map_reads x.encodes x.rest))
   where
-    by : {c : Option Counted} (o : Option Pairs) → ((ps : Pairs) → o ≡ some ps → depth v ≡ suc (pairs_depth ps)) → MapRead (x.front ++ x.rest) x.rest c o
+    by : {c : Option Counted} (o : Option Pairs) → ((ps : Pairs) → o ≡ Some ps → depth v ≡ suc (pairs_depth ps)) → MapRead (x.front ++ x.rest) x.rest c o
         → keys_by (x.front ++ x.rest) c ≡ keys_of_map o
     by o inner (is_map {ps = ps} l k ys) = pairs_keys (x.front ++ x.rest) ys (omega (arith, inner ps refl, x.shallow)) _ x.rest k
     by o inner no_map = refl

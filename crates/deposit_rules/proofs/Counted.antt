@@ -2,7 +2,7 @@
 use Prim.Native.Nat.{ℕ}
 use mathlib.Core.Bool.{Bool, false}
 use mathlib.Core.List.{List, [], ◌∷◌}
-use mathlib.Core.Option.{none, some}
+use Rattle.std.specs.Prelude.{None, Some}
 use mathlib.Core.Path.{◌≡◌, refl, ◌∙◌}
 use lib.ListN.{length}
 use Rattle.msgpack.specs.Readers.{counted, read_map}
@@ -12,19 +12,19 @@ use Rattle.deposit_rules.proofs.Loops.{none_of}
 use Rattle.deposit_rules.proofs.Maps.{same_number, not_so_many}
 
 module _ (s codes : List ℕ) where
-  pub among_no_map : read_map s ≡ none → AmongThose codes (keys_of s) false
+  pub among_no_map : read_map s ≡ None → AmongThose codes (keys_of s) false
   unfolding keys_of are_among
   among_no_map e = record { are = λ texts c. rw (e, none_of texts) }
 
-  pub those_no_map : read_map s ≡ none → AreThose codes (keys_of s) false
+  pub those_no_map : read_map s ≡ None → AreThose codes (keys_of s) false
   unfolding keys_of are_these
   those_no_map e = record { are = λ texts c. rw e (no_key texts) }
     where
-      no_key : (texts : List (List ℕ)) → false ≡ are_these texts (none ∷ [])
+      no_key : (texts : List (List ℕ)) → false ≡ are_these texts (None ∷ [])
       no_key [] = refl
       no_key (t ∷ ts) = refl
 
-  module _ (count size : ℕ) (e : read_map s ≡ some (counted count size)) where
+  module _ (count size : ℕ) (e : read_map s ≡ Some (counted count size)) where
     keys_are : keys_of s ≡ keys_from count s size
     unfolding keys_of
     keys_are = rw e

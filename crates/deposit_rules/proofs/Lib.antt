@@ -2,4 +2,3 @@ pub mod Loops
 pub mod Maps
 pub mod Counted
 pub mod Tables
-pub mod Names

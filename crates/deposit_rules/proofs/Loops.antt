@@ -2,12 +2,13 @@
 use Prim.Native.Nat.{ℕ, suc, ◌+◌, ◌-◌, ◌<◌, ◌≤◌}
 use mathlib.Core.Bool.{Bool, true, false, ◌&&◌}
 use mathlib.Core.List.{List, [], ◌∷◌, map}
-use mathlib.Core.Option.{none}
+use Rattle.std.specs.Prelude.{None, Result, Ok, Err}
 use mathlib.Core.Path.{◌≡◌, refl, sym, ap, ◌∙◌}
 use native.Mathlib.Numerals.{add-one}
 use native.Mathlib.Omega.{arith}
-use borrow.Author.Tests.{eq-eqb, ne_eqb}
+use borrow.Author.Tests.{eq-eqb, ne_eqb, eqb-true, eqb-false}
 use lib.Dec.{eqb}
+use Rattle.std.specs.List.{list_any}
 use lib.ListN.{length, get_or, drop, drop_of_length-le}
 use lib.Seq.{drop-cons}
 use Rattle.slices.specs.Logic.{absurd_numbers}
@@ -16,25 +17,26 @@ use Rattle.msgpack.specs.Items.{Passage, whole, cut, too_deep, pass_item}
 use Rattle.msgpack.specs.Pairs.{code_of, code_at, whole_pair, if_passed, inside_allowed, pair_at, pair_of}
 use Rattle.msgpack.specs.Views.{text_at}
 use Rattle.msgpack.specs.declared.Pair.{Pair}
-use Rattle.msgpack.specs.declared.Pair.TheVariants.{Whole, Cut, TooDeep}
+use Rattle.msgpack.specs.declared.Fault.{Fault}
+use Rattle.msgpack.specs.declared.Fault.TheVariants.{Cut, TooDeep}
 use Rattle.deposit_rules.specs.Keys.{Key, keys_from, is_one_of, are_among}
 use Rattle.deposit_rules.specs.Codes.{Coded, is_listed, listed_tells}
 use Rattle.deposit_rules.specs.Buckets.{dot, is_name_byte, are_name_bytes}
 
 -- ---- a code in a list
 
-module _ (codes : List ℕ) (code k : ℕ) where
-  pub listed_here : k < length codes → code ≡ get_or codes k 0 → is_listed (drop k codes) code ≡ true
-  unfolding is_listed
-  listed_here h e = rw (drop-cons codes k 0 h, eq-eqb code (get_or codes k 0) e)
+eqb_sym : (a b : ℕ) → eqb a b ≡ eqb b a
+eqb_sym a b = by (eqb a b) refl
+  where
+    by : (e : Bool) → eqb a b ≡ e → e ≡ eqb b a
+    by true e = sym (eq-eqb b a (sym (eqb-true a b e)))
+    by false e = sym (ne_eqb b a (λ q. eqb-false a b e (sym q)))
 
-  pub listed_on : k < length codes → (code ≡ get_or codes k 0 → ⊥) → is_listed (drop k codes) code ≡ is_listed (drop (k + 1) codes) code
-  unfolding is_listed
-  listed_on h n = rw (drop-cons codes k 0 h, ne_eqb code (get_or codes k 0) n, add-one)
-
-  pub listed_end : length codes ≤ k → is_listed (drop k codes) code ≡ false
-  unfolding is_listed
-  listed_end h = rw (drop_of_length-le codes h)
+-- a code in a list
+pub listed_any : (codes : List ℕ) (code : ℕ) → list_any (λ y. eqb y code) codes ≡ is_listed codes code
+unfolding is_listed
+listed_any [] code = refl
+listed_any (c ∷ codes) code = rw (eqb_sym c code, listed_any codes code)
 
 -- ---- the bytes of a name
 
@@ -43,9 +45,9 @@ module _ (t : List ℕ) (after : Bool) (k : ℕ) where
   unfolding are_name_bytes
   name_fails h e = rw (drop-cons t k 0 h, e)
 
-  pub name_dots : k < length t → (after && eqb (get_or t k 0) dot) ≡ true → are_name_bytes after (drop k t) ≡ false
+  pub name_dots : k < length t → after ≡ true → get_or t k 0 ≡ dot → are_name_bytes after (drop k t) ≡ false
   unfolding are_name_bytes
-  name_dots h e = rw (drop-cons t k 0 h, e) (and_no (is_name_byte (get_or t k 0)))
+  name_dots h a e = rw (drop-cons t k 0 h, a, eq-eqb (get_or t k 0) dot e) (and_no (is_name_byte (get_or t k 0)))
     where
       and_no : (b : Bool) → (b && false) ≡ false
       and_no true = refl
@@ -87,14 +89,14 @@ module _ (s : List ℕ) (at left : ℕ) (more : 0 < left) where
   unfolding keys_from
   keys_on code value next e = ap (λ n. keys_from n s at) one_more ∙ rw (← e)
 
-  -- an answer that is not `Whole`
-  pub keys_broken : (p : Pair) → pair_of p ≡ pair_at s at → ((code value next : ℕ) → p ≡ Whole code value next → ⊥) → keys_from left s at ≡ none ∷ []
+  -- an answer that is not `Ok`
+  pub keys_broken : (r : Result Pair Fault) → pair_of r ≡ pair_at s at → ((p : Pair) → r ≡ Ok p → ⊥) → keys_from left s at ≡ None ∷ []
   unfolding keys_from
-  keys_broken (Whole code value next) e k = absurd (k code value next refl)
-  keys_broken Cut e k = ap (λ n. keys_from n s at) one_more ∙ rw (← e)
-  keys_broken TooDeep e k = ap (λ n. keys_from n s at) one_more ∙ rw (← e)
+  keys_broken (Ok p) e k = absurd (k p refl)
+  keys_broken (Err Cut) e k = ap (λ n. keys_from n s at) one_more ∙ rw (← e)
+  keys_broken (Err TooDeep) e k = ap (λ n. keys_from n s at) one_more ∙ rw (← e)
 
-pub none_of : (texts : List (List ℕ)) → is_one_of texts none ≡ false
+pub none_of : (texts : List (List ℕ)) → is_one_of texts None ≡ false
 unfolding is_one_of
 none_of [] = refl
 none_of (text ∷ texts) = none_of texts
@@ -105,10 +107,10 @@ pub record AmongFrom (codes : List ℕ) (all rest : List Key) : Type 0 where
   pub same : (texts : List (List ℕ)) → Coded texts codes → are_among texts all ≡ are_among texts rest
 
 module _ (codes s : List ℕ) (bytes : AllBytes s) (all : List Key) (at left : ℕ) (more : 0 < left) (so_far : AmongFrom codes all (keys_from left s at)) where
-  pub among_broken : (p : Pair) → pair_of p ≡ pair_at s at → ((code value next : ℕ) → p ≡ Whole code value next → ⊥)
+  pub among_broken : (r : Result Pair Fault) → pair_of r ≡ pair_at s at → ((p : Pair) → r ≡ Ok p → ⊥)
       → (texts : List (List ℕ)) → Coded texts codes → false ≡ are_among texts all
   unfolding are_among
-  among_broken p e k texts c = sym (so_far.same texts c ∙ ap (are_among texts) (keys_broken s at left more p e k) ∙ rw (none_of texts))
+  among_broken r e k texts c = sym (so_far.same texts c ∙ ap (are_among texts) (keys_broken s at left more r e k) ∙ rw (none_of texts))
 
   module _ (code value next : ℕ) (e : whole_pair code value next ≡ pair_at s at) where
     tells : (texts : List (List ℕ)) → Coded texts codes → is_one_of texts (text_at (drop at s)) ≡ is_listed codes code

@@ -3,7 +3,7 @@ use Prim.Native.Nat.{ℕ, zero, suc, ◌+◌, ◌-◌, ◌<◌, ◌≤◌}
 use mathlib.Core.Bool.{Bool, true, false, ◌&&◌}
 use mathlib.Core.List.{List, [], ◌∷◌, map}
 use mathlib.Core.Logic.{◌⊎◌, inl, inr, ⊎_elim}
-use mathlib.Core.Option.{none, some}
+use Rattle.std.specs.Prelude.{Option, None, Some, is_some, Result, Ok}
 use mathlib.Core.Path.{◌≡◌, refl, sym, ap, ◌∙◌}
 use native.Mathlib.Omega.{arith}
 use borrow.Author.Tests.{eq-eqb, ne_eqb}
@@ -16,10 +16,11 @@ use Rattle.msgpack.specs.Items.{pass_over}
 use Rattle.msgpack.specs.Lookup.{found, missing, broken, if_whole, last_value}
 use Rattle.msgpack.specs.Pairs.{code_of, position, PairPassage, whole_pair, cut_pair, deep_pair, pair_at, pair_of, place_in, PairsRead}
 use Rattle.msgpack.specs.PairLaws.{letter_asked, told_found}
-use Rattle.msgpack.specs.Readers.{Part, counted, read_array, read_text}
+use Rattle.msgpack.specs.Readers.{counted, read_array, read_text, part_of}
 use Rattle.msgpack.specs.Views.{text_at, items_from, front_of}
 use Rattle.msgpack.specs.declared.Pair.{Pair}
-use Rattle.msgpack.specs.declared.Pair.TheVariants.{Whole}
+use Rattle.msgpack.specs.declared.Content.{Content}
+use Rattle.msgpack.specs.declared.Fault.{Fault}
 use Rattle.msgpack.specs.declared.Pairs.{Pairs}
 use Rattle.identifier.specs.Texts.{all}
 use Rattle.value.specs.Header.{secondary_key, length_key}
@@ -68,11 +69,11 @@ module _ (codes s : List ℕ) (bytes : AllBytes s) (all : List Key) (at k : ℕ)
   more : 0 < length codes - k
   more = omega arith
 
-  pub those_broken : (p : Pair) → pair_of p ≡ pair_at s at → ((code value next : ℕ) → p ≡ Whole code value next → ⊥)
+  pub those_broken : (r : Result Pair Fault) → pair_of r ≡ pair_at s at → ((p : Pair) → r ≡ Ok p → ⊥)
       → (texts : List (List ℕ)) → Coded texts codes → false ≡ are_these texts all
   unfolding are_these
-  those_broken p e o texts c =
-      sym (so_far.same texts c ∙ ap (are_these (drop k texts)) (keys_broken s at (length codes - k) more p e o)
+  those_broken r e o texts c =
+      sym (so_far.same texts c ∙ ap (are_these (drop k texts)) (keys_broken s at (length codes - k) more r e o)
       ∙ rw (nth texts codes k inside c).split)
 
   module _ (code value next : ℕ) (e : whole_pair code value next ≡ pair_at s at) where
@@ -110,14 +111,14 @@ unfolding are_these keys_from
 length_keys s [] zero at e = refl
 length_keys s [] (suc n) at e = by (pair_at s at) e
   where
-    by : (p : PairPassage) → are_these [] (if_pair p (none ∷ []) (λ next. text_at (drop at s) ∷ keys_from n s next)) ≡ true → suc n ≡ 0
+    by : (p : PairPassage) → are_these [] (if_pair p (None ∷ []) (λ next. text_at (drop at s) ∷ keys_from n s next)) ≡ true → suc n ≡ 0
     by (whole_pair code value next) f = absurd_numbers (cc)
     by cut_pair f = absurd_numbers (cc)
     by deep_pair f = absurd_numbers (cc)
 length_keys s (t ∷ ts) zero at e = absurd_numbers (cc)
 length_keys s (t ∷ ts) (suc n) at e = by (pair_at s at) e (λ next. length_keys s ts n next)
   where
-    by : (p : PairPassage) → are_these (t ∷ ts) (if_pair p (none ∷ []) (λ next. text_at (drop at s) ∷ keys_from n s next)) ≡ true
+    by : (p : PairPassage) → are_these (t ∷ ts) (if_pair p (None ∷ []) (λ next. text_at (drop at s) ∷ keys_from n s next)) ≡ true
         → ((next : ℕ) → are_these ts (keys_from n s next) ≡ true → n ≡ length ts) → suc n ≡ suc (length ts)
     by (whole_pair code value next) f on = ap suc (on next (both (key_is t (text_at (drop at s))) (are_these ts (keys_from n s next)) f).1)
     by cut_pair f on = absurd_numbers (cc)
@@ -180,20 +181,20 @@ module _ (s : List ℕ) (r : Pairs) (read : PairsRead s secondary_codes r) where
     unfolding position code_of big little
     under = found_under s secondary_codes r read 0x73 (omega arith) refl n
 
-    pub no_list : read_array (drop (get_or r.places 0 0) s) ≡ none → false ≡ has_length_alone s
+    pub no_list : read_array (drop (get_or r.places 0 0) s) ≡ None → false ≡ has_length_alone s
     unfolding has_length_alone
     no_list e = rw (under, e)
 
-    pub not_one : (count size : ℕ) → read_array (drop (get_or r.places 0 0) s) ≡ some (counted count size) → (count ≡ 1 → ⊥) → false ≡ has_length_alone s
+    pub not_one : (count size : ℕ) → read_array (drop (get_or r.places 0 0) s) ≡ Some (counted count size) → (count ≡ 1 → ⊥) → false ≡ has_length_alone s
     unfolding has_length_alone items_from
     not_one count size e o = rw (under, e) (by count o)
       where
-        by : (k : ℕ) → (k ≡ 1 → ⊥) → false ≡ is_one_map (length_key ∷ []) (some (items_from k (drop size (drop (get_or r.places 0 0) s))))
+        by : (k : ℕ) → (k ≡ 1 → ⊥) → false ≡ is_one_map (length_key ∷ []) (Some (items_from k (drop size (drop (get_or r.places 0 0) s))))
         by zero x = refl
         by (suc zero) x = absurd (x refl)
         by (suc (suc k)) x = refl
 
-    pub one_map : (count size : ℕ) → read_array (drop (get_or r.places 0 0) s) ≡ some (counted count size) → count ≡ 1
+    pub one_map : (count size : ℕ) → read_array (drop (get_or r.places 0 0) s) ≡ Some (counted count size) → count ≡ 1
         → has_length_alone s ≡ are_these (length_key ∷ []) (keys_of (drop size (drop (get_or r.places 0 0) s)))
     unfolding has_length_alone items_from
     one_map count size e o = rw (under, e, o)
@@ -213,10 +214,7 @@ module _ (s : List ℕ) (alone : are_these (identifier_key ∷ []) (keys_of s) �
     unfolding position code_of big little
     text_under_lem = found_under s identifier_codes r read 0x49 (omega arith) refl n
 
-    pub text_there : (p : Part) → read_text (drop (get_or r.places 0 0) s) ≡ some p → true ≡ has_identifier_alone s
+    pub text_is : (t : Option Content) → part_of t ≡ read_text (drop (get_or r.places 0 0) s) → is_some t ≡ has_identifier_alone s
     unfolding has_identifier_alone text_at
-    text_there p e = rw (alone, text_under_lem, e)
-
-    pub no_text : read_text (drop (get_or r.places 0 0) s) ≡ none → false ≡ has_identifier_alone s
-    unfolding has_identifier_alone text_at
-    no_text e = rw (alone, text_under_lem, e)
+    text_is (Some c) e = rw (alone, text_under_lem, ← e)
+    text_is None e = rw (alone, text_under_lem, ← e)

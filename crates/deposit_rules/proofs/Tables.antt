@@ -2,7 +2,7 @@
 use Prim.Native.Nat.{ℕ}
 use mathlib.Core.List.{[], ◌∷◌}
 use mathlib.Core.Path.{◌≡◌, refl}
-use borrow.Author.Tests.{eq-eqb, ne_eqb}
+use borrow.Author.Tests.{ne_eqb}
 use Rattle.endian.specs.Numbers.{little, big}
 use Rattle.msgpack.specs.Pairs.{code_of}
 use Rattle.identifier.specs.Texts.{all}
@@ -43,26 +43,24 @@ part_order_coded = record { is = refl; short = refl }
 module _ (tag : ℕ) where
   pub part_of_block : tag ≡ block_tag → part_keys tag ≡ given_in_block
   unfolding part_keys
-  part_of_block e = rw (eq-eqb tag block_tag e)
+  part_of_block e = rw e
+
+  pub part_of_version : tag ≡ version_tag → part_keys tag ≡ given_in_version
+  unfolding part_keys
+  part_of_version e = rw e
+
+  pub part_of_delete : tag ≡ version_delete_tag → part_keys tag ≡ given_in_delete
+  unfolding part_keys
+  part_of_delete e = rw e
+
+  pub part_of_other : (tag ≡ block_tag → ⊥) → (tag ≡ version_tag → ⊥) → (tag ≡ version_delete_tag → ⊥) → part_keys tag ≡ given_in_pack_list
+  unfolding part_keys
+  part_of_other b v d = rw (ne_eqb tag block_tag b, ne_eqb tag version_tag v, ne_eqb tag version_delete_tag d)
 
   pub header_of_block : tag ≡ block_tag → written_keys tag ≡ secondary_key ∷ primary_key ∷ []
   unfolding written_keys
-  header_of_block e = rw (eq-eqb tag block_tag e)
+  header_of_block e = rw e
 
-  module _ (n : tag ≡ block_tag → ⊥) where
-    pub header_of_other : written_keys tag ≡ primary_key ∷ []
-    unfolding written_keys
-    header_of_other = rw (ne_eqb tag block_tag n)
-
-    pub part_of_version : tag ≡ version_tag → part_keys tag ≡ given_in_version
-    unfolding part_keys
-    part_of_version e = rw (ne_eqb tag block_tag n, eq-eqb tag version_tag e)
-
-    module _ (m : tag ≡ version_tag → ⊥) where
-      pub part_of_delete : tag ≡ version_delete_tag → part_keys tag ≡ given_in_delete
-      unfolding part_keys
-      part_of_delete e = rw (ne_eqb tag block_tag n, ne_eqb tag version_tag m, eq-eqb tag version_delete_tag e)
-
-      pub part_of_other : (tag ≡ version_delete_tag → ⊥) → part_keys tag ≡ given_in_pack_list
-      unfolding part_keys
-      part_of_other d = rw (ne_eqb tag block_tag n, ne_eqb tag version_tag m, ne_eqb tag version_delete_tag d)
+  pub header_of_other : (tag ≡ block_tag → ⊥) → written_keys tag ≡ primary_key ∷ []
+  unfolding written_keys
+  header_of_other n = rw (ne_eqb tag block_tag n)

@@ -1,6 +1,6 @@
 -- What the deposit profile (request 9) asks of a block beyond its keys: of what stands under `s` in its header, and under `I` in its primary part.
 use Rattle.std.specs.Prelude.{ℕ, Bool, true, false, ◌&&◌, List, [], ◌∷◌}
-use Rattle.std.proofs.Math.Option.{Option, none, some}
+use Rattle.std.specs.Prelude.{Option, None, Some}
 use Rattle.msgpack.specs.Items.{pass_over}
 use Rattle.msgpack.specs.Lookup.{Under, found, missing, broken, if_whole, last_value}
 use Rattle.msgpack.specs.Views.{text_at, front_of, byte_view}
@@ -13,10 +13,10 @@ unfoldable pub under_whole : List ℕ → List ℕ → Under (List ℕ)
 under_whole key s = front_of s (if_whole (pass_over s) (λ n. last_value key s))
 
 abbrev pub is_one_map : List (List ℕ) → Option (List (List ℕ)) → Bool
-is_one_map keys (some (m ∷ [])) = are_these keys (keys_of m)
-is_one_map keys (some []) = false
-is_one_map keys (some (m ∷ n ∷ ms)) = false
-is_one_map keys none = false
+is_one_map keys (Some (m ∷ [])) = are_these keys (keys_of m)
+is_one_map keys (Some []) = false
+is_one_map keys (Some (m ∷ n ∷ ms)) = false
+is_one_map keys None = false
 
 abbrev pub is_one_map_under : List (List ℕ) → Under (List ℕ) → Bool
 is_one_map_under keys (found l) = is_one_map keys (byte_view.items l)
@@ -28,8 +28,8 @@ unfoldable pub has_length_alone : List ℕ → Bool
 has_length_alone header = is_one_map_under (length_key ∷ []) (under_whole secondary_key header)
 
 abbrev pub is_there : {A : Type 0} → Option A → Bool
-is_there (some a) = true
-is_there none = false
+is_there (Some a) = true
+is_there None = false
 
 abbrev pub is_text_under : Under (List ℕ) → Bool
 is_text_under (found i) = is_there (text_at i)

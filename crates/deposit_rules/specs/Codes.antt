@@ -1,6 +1,6 @@
 -- Keys told by their codes, as msgpack tells them: where each text asked for is short, a code tells which of them a key is.
 use Rattle.std.specs.Prelude.{ℕ, Bool, true, false, ◌&&◌, ◌||◌, List, [], ◌∷◌, map, ◌≡◌, refl, leb, ltb, eqb, length}
-use Rattle.std.proofs.Math.Option.{Option, none, some}
+use Rattle.std.specs.Prelude.{Option, None, Some}
 use Rattle.std.proofs.Common.{ap₂, ◌∙◌, leb-true, ltb-true}
 use Rattle.slices.specs.Bytes.{AllBytes, none_bytes, cons_bytes}
 use Rattle.slices.specs.Logic.{both}
@@ -44,8 +44,8 @@ code_tells text t e b =
     code_is_key text (bytes_of text r.1) (leb-true (length text) 3 r.0) t b ∙ by (read_text t)
   where
     by : (p : Option Part) → content_is text t p ≡ key_is text (content_of_part t p)
-    by (some p) = refl
-    by none = refl
+    by (Some p) = refl
+    by None = refl
 
 pub listed_tells : (texts : List (List ℕ)) (t : List ℕ) → are_short_texts texts ≡ true → AllBytes t
     → is_listed (map code_of texts) (code_at t) ≡ is_one_of texts (text_at t)

@@ -10,21 +10,14 @@ ghost use Rattle.deposit_rules.specs.Codes.{is_listed, AmongThose, AreThose};
 ghost use Rattle.deposit_rules.specs.Buckets.{is_letter_or_digit, is_name_byte, are_name_bytes, is_bucket_name};
 ghost use Rattle.deposit_rules.specs.Blocks.{has_length_alone, has_identifier_alone};
 
-use msgpack::{Content, Items, Pair};
+use msgpack::{Items, Pair};
 
 // ---- the keys of a map, by their codes
 
 fn is_listed(codes: &[u64], code: u64) -> bool
     ensures { result ≡ is_listed codes.now code }
 {
-    let mut i = 0;
-    while i < codes.len() {
-        if code == codes[i] {
-            return true;
-        }
-        i += 1;
-    }
-    false
+    codes.contains(&code)
 }
 
 // Whether the keys of so many pairs, from a place on, all have one of these codes.
@@ -32,16 +25,14 @@ fn among_from(s: &[u8], from: usize, count: usize, codes: &[u64]) -> bool
     ensures { AmongThose codes.now (keys_from count s.now from) result }
 {
     let mut at = from;
-    let mut left = count;
-    while 0 < left {
-        let Pair::Whole { code, value, next } = msgpack::pair_at(s, at) else {
+    for _ in 0..count {
+        let Ok(Pair { code, next, .. }) = msgpack::pair_at(s, at) else {
             return false;
         };
         if !is_listed(codes, code) {
             return false;
         }
         at = next;
-        left -= 1;
     }
     true
 }
@@ -52,8 +43,8 @@ fn are_among(s: &[u8], codes: &[u64]) -> bool
     ensures { AmongThose codes.now (keys_of s.now) result }
 {
     match msgpack::read_map(s) {
-        Items::Counted { count, size, .. } => among_from(s, size, count, codes),
-        Items::Missing => false,
+        Some(Items { count, size, .. }) => among_from(s, size, count, codes),
+        None => false,
     }
 }
 
@@ -62,16 +53,14 @@ fn these_from(s: &[u8], from: usize, codes: &[u64]) -> bool
     ensures { AreThose codes.now (keys_from (length codes.now) s.now from) result }
 {
     let mut at = from;
-    let mut i = 0;
-    while i < codes.len() {
-        let Pair::Whole { code, value, next } = msgpack::pair_at(s, at) else {
+    for &wanted in codes {
+        let Ok(Pair { code, next, .. }) = msgpack::pair_at(s, at) else {
             return false;
         };
-        if code != codes[i] {
+        if code != wanted {
             return false;
         }
         at = next;
-        i += 1;
     }
     true
 }
@@ -82,13 +71,8 @@ fn are_these(s: &[u8], codes: &[u64]) -> bool
     ensures { AreThose codes.now (keys_of s.now) result }
 {
     match msgpack::read_map(s) {
-        Items::Counted { count, size, .. } => {
-            if count != codes.len() {
-                return false;
-            }
-            these_from(s, size, codes)
-        }
-        Items::Missing => false,
+        Some(Items { count, size, .. }) => count == codes.len() && these_from(s, size, codes),
+        None => false,
     }
 }
 
@@ -125,16 +109,12 @@ pub fn header_keys_are_given(header: &[u8]) -> bool
 pub fn part_keys_are_given(tag: u16, part: &[u8]) -> bool
     ensures { result ≡ are_among (part_keys tag) (keys_of part.now) }
 {
-    if tag == records::BLOCK {
-        return are_among(part, &BLOCK_KEYS);
+    match tag {
+        records::BLOCK => are_among(part, &BLOCK_KEYS),
+        records::VERSION => are_among(part, &VERSION_KEYS),
+        records::VERSION_DELETE => are_among(part, &DELETE_KEYS),
+        _ => are_among(part, &PACK_LIST_KEYS),
     }
-    if tag == records::VERSION {
-        return are_among(part, &VERSION_KEYS);
-    }
-    if tag == records::VERSION_DELETE {
-        return are_among(part, &DELETE_KEYS);
-    }
-    are_among(part, &PACK_LIST_KEYS)
 }
 
 // Whether the header's keys are the writer's for this tag, in its order.
@@ -142,9 +122,10 @@ pub fn header_is_in_order(tag: u16, header: &[u8]) -> bool
     ensures { result ≡ are_these (written_keys tag) (keys_of header.now) }
 {
     if tag == records::BLOCK {
-        return are_these(header, &BLOCK_HEADER);
+        are_these(header, &BLOCK_HEADER)
+    } else {
+        are_these(header, &PART_HEADER)
     }
-    are_these(header, &PART_HEADER)
 }
 
 // ---- a block's two maps
@@ -167,13 +148,10 @@ pub fn has_length_alone(header: &[u8]) -> bool
     }
     let list = slices::from(header, at);
     match msgpack::read_array(list) {
-        Items::Counted { count, size, .. } => {
-            if count != 1 {
-                return false;
-            }
-            are_these(slices::from(list, size), &LENGTH)
+        Some(Items { count, size, .. }) => {
+            count == 1 && are_these(slices::from(list, size), &LENGTH)
         }
-        Items::Missing => false,
+        None => false,
     }
 }
 
@@ -189,10 +167,7 @@ pub fn has_identifier_alone(part: &[u8]) -> bool
     if at == 0 {
         return false;
     }
-    match msgpack::read_text(slices::from(part, at)) {
-        Content::Part { start, len, .. } => true,
-        Content::Missing => false,
-    }
+    msgpack::read_text(slices::from(part, at)).is_some()
 }
 
 // ---- a bucket's name
@@ -200,13 +175,13 @@ pub fn has_identifier_alone(part: &[u8]) -> bool
 fn is_letter_or_digit(b: u8) -> bool
     ensures { result ≡ is_letter_or_digit b }
 {
-    ((b'a' <= b) & (b <= b'z')) | ((b'0' <= b) & (b <= b'9'))
+    b.is_ascii_lowercase() || b.is_ascii_digit()
 }
 
 fn is_name_byte(b: u8) -> bool
     ensures { result ≡ is_name_byte b }
 {
-    is_letter_or_digit(b) | ((b == b'.') | (b == b'-'))
+    is_letter_or_digit(b) || b == b'.' || b == b'-'
 }
 
 // 3 to 63 small letters, digits, dots and hyphens, which begin and end with a letter or digit, and in
@@ -215,37 +190,23 @@ pub fn is_bucket_name(text: &[u8]) -> bool
     ensures { result ≡ is_bucket_name text.now }
 {
     let n = text.len();
-    if n < 3 {
-        return false;
-    }
-    if 63 < n {
-        return false;
-    }
-    if !is_letter_or_digit(text[0]) {
-        return false;
-    }
-    if !is_letter_or_digit(text[n - 1]) {
-        return false;
-    }
-    are_name_bytes(text)
+    3 <= n
+        && n <= 63
+        && is_letter_or_digit(text[0])
+        && is_letter_or_digit(text[n - 1])
+        && are_name_bytes(text)
 }
 
 fn are_name_bytes(text: &[u8]) -> bool
     ensures { result ≡ are_name_bytes false text.now }
 {
     let mut after = false;
-    let mut i = 0;
-    while i < text.len() {
-        let b = text[i];
-        if !is_name_byte(b) {
-            return false;
-        }
+    for &b in text {
         let here = b == b'.';
-        if after & here {
+        if !is_name_byte(b) || after && here {
             return false;
         }
         after = here;
-        i += 1;
     }
     true
 }

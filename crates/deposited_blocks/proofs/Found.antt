@@ -2,7 +2,7 @@
 use Prim.Native.Nat.{ℕ, zero, suc, ◌^◌, ◌<◌}
 use Rattle.std.specs.Prelude.{Bool, true, false, cond, ◌&&◌, ◌↔◌, ◌≡◌, eqb}
 use mathlib.Core.List.{List, [], ◌∷◌, Memᴰ}
-use Rattle.std.proofs.Math.Option.{Option, none, some}
+use Rattle.std.specs.Prelude.{Option, None, Some}
 use Rattle.std.proofs.Math.Path.{refl, ap}
 use Rattle.std.proofs.Common.{sym, subst, ◌∙◌}
 use borrow.Author.Tests.{eq-eqb, eqb-true}
@@ -38,13 +38,13 @@ module _ (limit : ℕ) (s : List ℕ) (bytes : AllBytes s) (n : ℕ) (b : Block)
       → record_at limit s e.start ≡ at_place (value_at s e.start e.length) (read_record limit e.tag (value_at s e.start e.length))
   record_at_lem d e q = record_there limit s bytes ((deposited_exactly limit s).0 d).0 e (nth_member (reading limit s).entries (reading limit s).ending n e q)
 
-  is_number : deposited_block limit s n ≡ some b → BlockNumber limit s n b
+  is_number : deposited_block limit s n ≡ Some b → BlockNumber limit s n b
   unfolding deposited_block
   is_number f = by_ending (deposit_reading limit s).ending refl f
     where
       by_record : (deposit_reading limit s).ending ≡ whole → (e : Entry) → nth_yield (reading limit s) n ≡ entry e → e.tag ≡ block_tag
           → (a : Answer Record) → read_record limit e.tag (value_at s e.start e.length) ≡ a
-          → block_in (at_place (value_at s e.start e.length) a) ≡ some b → BlockNumber limit s n b
+          → block_in (at_place (value_at s e.start e.length) a) ≡ Some b → BlockNumber limit s n b
       by_record d e q t (granted r) p g =
           let is : record { identifier = r.contents.identifier; content = data_in (value_at s e.start e.length) r.told } ≡ b = cc in
           record {
@@ -63,22 +63,22 @@ module _ (limit : ℕ) (s : List ℕ) (bytes : AllBytes s) (n : ℕ) (b : Block)
       by_record d e q t (no_result k) p g = absurd_numbers (cc)
 
       by_tag : (deposit_reading limit s).ending ≡ whole → (e : Entry) → nth_yield (reading limit s) n ≡ entry e → (t : Bool) → eqb e.tag block_tag ≡ t
-          → cond t (block_in (record_at limit s e.start)) none ≡ some b → BlockNumber limit s n b
+          → cond t (block_in (record_at limit s e.start)) None ≡ Some b → BlockNumber limit s n b
       by_tag d e q true t g = by_record d e q (eqb-true e.tag block_tag t) (read_record limit e.tag (value_at s e.start e.length)) refl
           (ap block_in (sym (record_at_lem d e q)) ∙ g)
       by_tag d e q false t g = absurd_numbers (cc)
 
-      by_yield : (deposit_reading limit s).ending ≡ whole → (y : Yield) → nth_yield (reading limit s) n ≡ y → block_at limit s y ≡ some b → BlockNumber limit s n b
+      by_yield : (deposit_reading limit s).ending ≡ whole → (y : Yield) → nth_yield (reading limit s) n ≡ y → block_at limit s y ≡ Some b → BlockNumber limit s n b
       by_yield d (entry e) q g = by_tag d e q (eqb e.tag block_tag) refl g
       by_yield d ended q g = absurd_numbers (cc)
       by_yield d (refusal k at) q g = absurd_numbers (cc)
 
-      by_ending : (x : Ending) → (deposit_reading limit s).ending ≡ x → if_deposited x (block_at limit s (nth_yield (reading limit s) n)) ≡ some b
+      by_ending : (x : Ending) → (deposit_reading limit s).ending ≡ x → if_deposited x (block_at limit s (nth_yield (reading limit s) n)) ≡ Some b
           → BlockNumber limit s n b
       by_ending whole d g = by_yield d (nth_yield (reading limit s) n) refl g
       by_ending (refused k at) d g = absurd_numbers (cc)
 
-  number_is : BlockNumber limit s n b → deposited_block limit s n ≡ some b
+  number_is : BlockNumber limit s n b → deposited_block limit s n ≡ Some b
   unfolding deposited_block
   number_is x =
       let e : Entry = x.record_is in
@@ -89,7 +89,7 @@ module _ (limit : ℕ) (s : List ℕ) (bytes : AllBytes s) (n : ℕ) (b : Block)
       rw (x.deposited, x.numbered, eq-eqb e.tag block_tag i.tag, there_is, i.identifier, i.data_is)
 
   -- a block is told exactly where the pack is deposited and its record of this number reads as that block
-  pub block_exactly : deposited_block limit s n ≡ some b ↔ BlockNumber limit s n b
+  pub block_exactly : deposited_block limit s n ≡ Some b ↔ BlockNumber limit s n b
   block_exactly = (is_number, number_is)
 
 -- ---- two blocks
@@ -113,7 +113,7 @@ module _ (limit : ℕ) (small : limit < 2 ^ 32) (s t : List ℕ) (b : AllBytes s
       record {
         bytes = record_bytes s e;
         first = ap (bytes_at s) p.numbered;
-        second = ap (bytes_at t) q.numbered ∙ ap some (sym same);
+        second = ap (bytes_at t) q.numbered ∙ ap Some (sym same);
       }
 
   -- THE THEOREM
@@ -122,8 +122,8 @@ module _ (limit : ℕ) (small : limit < 2 ^ 32) (s t : List ℕ) (b : AllBytes s
     where
       by : (o : Option Block) → deposited_block limit s n ≡ o → (q : Option Block) → deposited_block limit t m ≡ q → same_block o q ≡ true
           → EqualBytes limit s n t m
-      by (some x) p (some y) q g =
+      by (Some x) p (Some y) q g =
           let same : x ≡ y = same_block_lem x y g in
-          bytes_are_equal x ((block_exactly limit s b n x).0 p) ((block_exactly limit t c m x).0 (q ∙ ap some (sym same)))
-      by (some x) p none q g = absurd_numbers (cc)
-      by none p o q g = absurd_numbers (cc)
+          bytes_are_equal x ((block_exactly limit s b n x).0 p) ((block_exactly limit t c m x).0 (q ∙ ap Some (sym same)))
+      by (Some x) p None q g = absurd_numbers (cc)
+      by None p o q g = absurd_numbers (cc)

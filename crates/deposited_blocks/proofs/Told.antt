@@ -2,7 +2,8 @@
 use Prim.Native.Nat.{ℕ, ◌+◌}
 use mathlib.Core.Bool.{Bool, true, false, cond}
 use mathlib.Core.List.{List}
-use mathlib.Core.Option.{Option, none, some}
+use Rattle.std.specs.Prelude.{Option, None, Some, Result, Ok, Err}
+use Rattle.std.specs.Result.{result_ok}
 use mathlib.Core.Path.{◌≡◌, refl, sym, ap, subst, ◌∙◌}
 use native.Mathlib.Omega.{arith}
 use borrow.Author.Tests.{eq-eqb, ne_eqb}
@@ -19,8 +20,7 @@ use Rattle.refusals.specs.Answers.{Answer, refused as no_result, granted}
 use Rattle.tlv.specs.Found.{Found, end, found, fault, step}
 use Rattle.tlv.specs.declared.RecordHeader.{RecordHeader}
 use Rattle.pack.specs.declared.Entry.{Entry}
-use Rattle.pack.specs.declared.Walked.{Walked}
-use Rattle.pack.specs.declared.Walked.TheVariants as Walked
+use Rattle.pack.specs.declared.Fault.{Fault}
 use Rattle.pack.specs.Reading.{Ending, whole, refused, reading, counted, outcome}
 use Rattle.pack.specs.Reading as pack
 use Rattle.pack.specs.Walk.{Yield, entry, ended, refusal, yield_of, nth_yield}
@@ -32,9 +32,12 @@ use Rattle.records.specs.Record.{block_tag, Record, AtPlace, there, refused_at, 
 use Rattle.records.specs.Laws.{read_as}
 use Rattle.records.specs.Answers.{place_of_part, record_in, place_of}
 use Rattle.records.specs.declared.Record as declared-record
-use Rattle.records.specs.declared.AtPlace as declared-place
-use Rattle.records.specs.declared.AtPlace.TheVariants as place-answer
+use Rattle.records.specs.declared.Placed.{Placed}
+use Rattle.records.specs.declared.PlaceFault.{PlaceFault}
+use Rattle.records.specs.declared.PlaceFault.TheVariants as place-fault
 use Rattle.deposit.specs.Packs.{deposit_reading, deposit}
+use Rattle.deposit.specs.Answers.{outcome_of, fault_number, fault_place}
+use Rattle.deposit.specs.declared.Fault as deposit
 use Rattle.deposit_laws.specs.Blocks.{data_in}
 use Rattle.deposited_blocks.specs.Same.{Block, block_in, block_at, if_deposited, deposited_block, same_block, EqualBytes}
 use Rattle.deposited_blocks.proofs.Found.{same_block_bytes}
@@ -80,14 +83,23 @@ there_is limit s at value r e = by (leb (length s) at) (ltb limit (length s)) (s
     by false false (fault n) q = absurd_numbers (cc)
     by false false (found h) q = read h (read_record limit h.tag (records.value_at s at h)) refl q
 
+abbrev block_of : List ℕ → Placed → Option Block
+block_of s p = Some (record { identifier = texts_in s p.«record».identifier; content = part_at s (place_of_part p.«record».told.secondary) })
+
 module _ (limit : ℕ) (s : List ℕ) (at : ℕ) where
   -- told as places of the pack, its data are the same bytes
-  block_read : (d : declared-record.Record) (v : Place) → there (part_at s v) (record_in s d) ≡ there_from (at + 32) (record_at limit s at)
-      → some (record { identifier = texts_in s d.identifier; content = part_at s (place_of_part d.told.secondary) }) ≡ block_in (record_at limit s at)
-  block_read d v e = by (record_at limit s at) refl e
+  block_read : (p : Placed) → place_of s (Ok p) ≡ there_from (at + 32) (record_at limit s at)
+      → block_of s p ≡ block_in (record_at limit s at)
+  block_read placed e = by (record_at limit s at) refl e
     where
+      v : Place
+      v = placed.value
+
+      d : declared-record.Record
+      d = placed.«record»
+
       by : (o : AtPlace) → record_at limit s at ≡ o → there (part_at s v) (record_in s d) ≡ there_from (at + 32) o
-          → some (record { identifier = texts_in s d.identifier; content = part_at s (place_of_part d.told.secondary) }) ≡ block_in o
+          → Some (record { identifier = texts_in s d.identifier; content = part_at s (place_of_part d.told.secondary) }) ≡ block_in o
       by (there value r) p q =
           let x = there_is limit s at value r p in
           let same : record_in s d ≡ record_from (at + 32) r = cc in
@@ -99,64 +111,83 @@ module _ (limit : ℕ) (s : List ℕ) (at : ℕ) where
           ∙ sym (part_of_part s (at + 32) x.long r.told.secondary.start r.told.secondary.len
           (omega (arith, inside.secondary_last, ap length x.value_is)))
           ∙ ap (λ u. data_in u r.told) (sym x.value_is) in
-          λ j. some (record { identifier = identifier j; content = content j })
+          λ j. Some (record { identifier = identifier j; content = content j })
       by (refused_at n p) q f = absurd_numbers (cc)
       by (alone n) q f = absurd_numbers (cc)
 
-  no_block_read : (p : declared-place.AtPlace) → place_of s p ≡ there_from (at + 32) (record_at limit s at) → ((d : declared-record.Record) (v : Place) → p ≡ place-answer.Record d v → ⊥)
-      → none ≡ block_in (record_at limit s at)
-  no_block_read p e k = by (record_at limit s at) p e k
+  no_block_read : (f : PlaceFault) → place_of s (Err f) ≡ there_from (at + 32) (record_at limit s at) → None ≡ block_in (record_at limit s at)
+  no_block_read f e = by (record_at limit s at) f e
     where
-      by : (o : AtPlace) (p : declared-place.AtPlace) → place_of s p ≡ there_from (at + 32) o → ((d : declared-record.Record) (v : Place) → p ≡ place-answer.Record d v → ⊥) → none ≡ block_in o
-      by (refused_at n q) p f k = refl
-      by (alone n) p f k = refl
-      by (there value r) (place-answer.Record d v) f k = absurd (k d v refl)
-      by (there value r) place-answer.Outside f k = absurd_numbers (cc)
-      by (there value r) place-answer.TooLong f k = absurd_numbers (cc)
-      by (there value r) (place-answer.Fault g q) f k = absurd_numbers (cc)
-      by (there value r) (place-answer.Refused g) f k = absurd_numbers (cc)
+      by : (o : AtPlace) (f : PlaceFault) → place_of s (Err f) ≡ there_from (at + 32) o → None ≡ block_in o
+      by (refused_at n q) f e = refl
+      by (alone n) f e = refl
+      by (there value r) place-fault.Outside e = absurd_numbers (cc)
+      by (there value r) (place-fault.Pack g) e = absurd_numbers (cc)
+      by (there value r) (place-fault.Record g) e = absurd_numbers (cc)
 
 -- ---- call by call
 
+module _ (limit : ℕ) (s : List ℕ) where
+  pub is_deposited : (r : Result ℕ deposit.Fault) → outcome_of r ≡ deposit limit s → (count : ℕ) → result_ok r ≡ Some count → counted count ≡ deposit limit s
+  is_deposited (Ok n) e count is = let same : n ≡ count = cc in rw (← same) e
+  is_deposited (Err f) e count is = absurd_numbers (cc)
+
+  pub is_entry : (n : ℕ) (w : Result (Option Entry) Fault) → yield_of w ≡ nth_yield (reading limit s) n → (e : Entry) → result_ok w ≡ Some (Some e)
+      → entry e ≡ nth_yield (reading limit s) n
+  is_entry n (Ok (Some d)) q e is = let same : d ≡ e = cc in rw (← same) q
+  is_entry n (Ok None) q e is = absurd_numbers (cc)
+  is_entry n (Err f) q e is = absurd_numbers (cc)
+
 module _ (limit : ℕ) (s : List ℕ) (n : ℕ) where
-  pub not_deposited : (k at : ℕ) → refused k at ≡ deposit limit s → none ≡ deposited_block limit s n
+  pub not_deposited : (r : Result ℕ deposit.Fault) → outcome_of r ≡ deposit limit s → result_ok r ≡ None → None ≡ deposited_block limit s n
   unfolding deposited_block
-  not_deposited k at e = by (deposit_reading limit s).ending refl e
+  not_deposited (Ok k) e none = absurd_numbers (cc)
+  not_deposited (Err f) e none = by (deposit_reading limit s).ending refl e
     where
-      by : (x : Ending) → (deposit_reading limit s).ending ≡ x → refused k at ≡ outcome (record { entries = (deposit_reading limit s).entries; ending = x })
-          → none ≡ if_deposited x (block_at limit s (nth_yield (reading limit s) n))
-      by whole q f = absurd_numbers (cc)
-      by (refused m p) q f = refl
+      by : (x : Ending) → (deposit_reading limit s).ending ≡ x
+          → refused (fault_number f) (fault_place f) ≡ outcome (record { entries = (deposit_reading limit s).entries; ending = x })
+          → None ≡ if_deposited x (block_at limit s (nth_yield (reading limit s) n))
+      by whole q g = absurd_numbers (cc)
+      by (refused m p) q g = refl
 
   module _ (count : ℕ) (c : counted count ≡ deposit limit s) where
     by_number : deposited_block limit s n ≡ block_at limit s (nth_yield (reading limit s) n)
     unfolding deposited_block
     by_number = ap (λ x. if_deposited x (block_at limit s (nth_yield (reading limit s) n))) (counted_whole (deposit_reading limit s) count c)
 
-    pub no_record : (w : Walked) → yield_of w ≡ nth_yield (reading limit s) n → ((e : Entry) → w ≡ Walked.Record e → ⊥) → none ≡ deposited_block limit s n
-    no_record w e k = none_at w k ∙ ap (block_at limit s) e ∙ sym by_number
-      where
-        none_at : (w : Walked) → ((e : Entry) → w ≡ Walked.Record e → ⊥) → none ≡ block_at limit s (yield_of w)
-        none_at (Walked.Record e) k = absurd (k e refl)
-        none_at Walked.End k = refl
-        none_at Walked.TooLong k = refl
-        none_at (Walked.Fault f at) k = refl
+    pub no_record : (w : Result (Option Entry) Fault) → yield_of w ≡ nth_yield (reading limit s) n → result_ok w ≡ None → None ≡ deposited_block limit s n
+    no_record (Ok o) e none = absurd_numbers (cc)
+    no_record (Err f) e none = ap (block_at limit s) e ∙ sym by_number
+
+    pub no_entry : (w : Result (Option Entry) Fault) → yield_of w ≡ nth_yield (reading limit s) n → result_ok w ≡ Some None → None ≡ deposited_block limit s n
+    no_entry (Ok None) e none = ap (block_at limit s) e ∙ sym by_number
+    no_entry (Ok (Some d)) e none = absurd_numbers (cc)
+    no_entry (Err f) e none = absurd_numbers (cc)
 
     module _ (e : Entry) (y : entry e ≡ nth_yield (reading limit s) n) where
-      pub no_block : (e.tag ≡ block_tag → ⊥) → none ≡ deposited_block limit s n
+      pub no_block : (e.tag ≡ block_tag → ⊥) → None ≡ deposited_block limit s n
       no_block t = sym (by_number ∙ ap (block_at limit s) (sym y) ∙ rw (ne_eqb e.tag block_tag t))
 
       module _ (t : e.tag ≡ block_tag) where
         by_place : deposited_block limit s n ≡ block_in (record_at limit s e.start)
         by_place = by_number ∙ ap (block_at limit s) (sym y) ∙ rw (eq-eqb e.tag block_tag t)
 
-        pub not_read : (p : declared-place.AtPlace) → place_of s p ≡ there_from (e.start + 32) (record_at limit s e.start)
-            → ((d : declared-record.Record) (v : Place) → p ≡ place-answer.Record d v → ⊥) → none ≡ deposited_block limit s n
-        not_read p f k = no_block_read limit s e.start p f k ∙ sym by_place
+        module _ (r : Result Placed PlaceFault) (at : place_of s r ≡ there_from (e.start + 32) (record_at limit s e.start)) where
+          pub not_read : result_ok r ≡ None → None ≡ deposited_block limit s n
+          not_read none = by r at none
+            where
+              by : (r : Result Placed PlaceFault) → place_of s r ≡ there_from (e.start + 32) (record_at limit s e.start) → result_ok r ≡ None
+                  → None ≡ deposited_block limit s n
+              by (Ok p) q none = absurd_numbers (cc)
+              by (Err f) q none = no_block_read limit s e.start f q ∙ sym by_place
 
-        pub block_told : (d : declared-record.Record) (v : Place) → there (part_at s v) (record_in s d) ≡ there_from (e.start + 32) (record_at limit s e.start)
-            → some (record { identifier = texts_in s d.identifier; content = part_at s (place_of_part d.told.secondary) }) ≡ deposited_block limit s n
-        block_told d v f = block_read limit s e.start d v f ∙ sym by_place
+          pub block_told : (p : Placed) → result_ok r ≡ Some p → block_of s p ≡ deposited_block limit s n
+          block_told p is = by r at is
+            where
+              by : (r : Result Placed PlaceFault) → place_of s r ≡ there_from (e.start + 32) (record_at limit s e.start) → result_ok r ≡ Some p
+                  → block_of s p ≡ deposited_block limit s n
+              by (Ok d) q is = let same : d ≡ p = cc in rw (← same) (block_read limit s e.start d q ∙ sym by_place)
+              by (Err f) q is = absurd_numbers (cc)
 
 -- ---- two of them
 
@@ -170,5 +201,5 @@ module _ (s t : List ℕ) (b : AllBytes s) (c : AllBytes t) (n m : ℕ) where
       let same : same_block x y ≡ same_block (deposited_block pack_limit s n) (deposited_block pack_limit t m) = λ i. same_block (e i) (f i) in
       (same, λ g. same_block_bytes pack_limit (omega arith) s t b c n m (sym same ∙ g))
 
-  pub no_first : none ≡ deposited_block pack_limit s n → Answers false
-  no_first e = answers none (deposited_block pack_limit t m) e refl
+  pub no_first : None ≡ deposited_block pack_limit s n → Answers false
+  no_first e = answers None (deposited_block pack_limit t m) e refl

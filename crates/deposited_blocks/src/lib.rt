@@ -12,36 +12,21 @@ ghost use Rattle.primary.specs.Answers.{texts_in};
 ghost use Rattle.deposited_blocks.specs.Same.{deposited_block, same_block, EqualBytes};
 ghost use Rattle.deposited_blocks.specs.Answers.{held_of};
 
-use deposit::Checked;
-use pack::Walked;
 use primary::Texts;
-use records::{AtPlace, Record};
+use records::Record;
 use slices::Place;
 
-// The block that was asked for, or none.
-#[derive(Clone, Copy)]
-enum Held {
-    Block(Record),
-    Other,
-}
-
 // Record number n of a pack, from 0, where the pack is deposited and the record is a block.
-fn deposited_block(pack: &[u8], n: usize) -> Held
+fn deposited_block(pack: &[u8], n: usize) -> Option<Record>
     ensures { held_of pack.now result ≡ deposited_block pack_limit pack.now n }
 {
-    let Checked::Records(count) = deposit::check(pack) else {
-        return Held::Other;
-    };
-    let Walked::Record(e) = pack::nth(pack, n) else {
-        return Held::Other;
-    };
+    deposit::check(pack).ok()?;
+    let e = pack::nth(pack, n).ok()??;
     if e.tag != records::BLOCK {
-        return Held::Other;
+        return None;
     }
-    let AtPlace::Record { record, value } = records::read_at(pack, e.start) else {
-        return Held::Other;
-    };
-    Held::Block(record)
+    let placed = records::read_at(pack, e.start).ok()?;
+    Some(placed.record)
 }
 
 fn same_part(first: &[u8], a: Place, second: &[u8], b: Place) -> bool
@@ -64,10 +49,10 @@ pub fn is_same_block(first: &[u8], n: usize, second: &[u8], m: usize) -> bool
     ensures value { result ≡ same_block (deposited_block pack_limit first.now n) (deposited_block pack_limit second.now m) }
     ensures bytes { result ≡ true → EqualBytes pack_limit first.now n second.now m }
 {
-    let Held::Block(a) = deposited_block(first, n) else {
+    let Some(a) = deposited_block(first, n) else {
         return false;
     };
-    let Held::Block(b) = deposited_block(second, m) else {
+    let Some(b) = deposited_block(second, m) else {
         return false;
     };
     let content = Place {

@@ -1,11 +1,9 @@
 -- Numbers at a place of a list: where one can stand, what is read there, and what the list holds once one is written.
 use Rattle.std.specs.Prelude.{ℕ, ◌+◌, ◌≤◌, Bool, true, false, cond, ◌&&◌, List, ◌≡◌, refl, leb, length, take, drop}
-use Rattle.std.proofs.Common.{true≢false, sym, ap, ◌∙◌, arith, le-leb, leb-true}
-use Rattle.std.proofs.Math.Option.{Option, none, some}
+use Rattle.std.proofs.Common.{true≢false, sym, ◌∙◌, arith, le-leb, leb-true}
+use Rattle.std.specs.Prelude.{Option, None, Some}
 use Rattle.slices.specs.Overwriting.{overwritten}
 use Rattle.endian.specs.Numbers.{big_bytes}
-use Rattle.endian.specs.declared.Number.{Number}
-use Rattle.endian.specs.declared.Number.TheVariants.{Read, Missing}
 
 -- whether a number of w bytes can stand at a place of so many bytes: it has at most 8, and all of them lie within
 unfoldable pub holds : ℕ → ℕ → ℕ → Bool
@@ -13,16 +11,11 @@ holds len at w = leb w 8 && leb (at + w) len
 
 -- the number of the w bytes at a place, in either order: `little` or `big`
 unfoldable pub number_at : (List ℕ → ℕ) → List ℕ → ℕ → ℕ → Option ℕ
-number_at order s at w = cond (holds (length s) at w) (some (order (take w (drop at s)))) none
+number_at order s at w = cond (holds (length s) at w) (Some (order (take w (drop at s)))) None
 
 -- what a write of the w bytes of n, big-endian, leaves: the list as it was, where the number cannot stand there
 unfoldable pub written_at : List ℕ → ℕ → ℕ → ℕ → List ℕ
 written_at s at w n = cond (holds (length s) at w) (overwritten s at (big_bytes w n)) s
-
--- what each answer of a read says
-abbrev pub number_of : Number → Option ℕ
-number_of (Read n) = some n
-number_of Missing = none
 
 -- ---- where a number can stand
 
@@ -48,19 +41,19 @@ unfolding written_at
 number_written s at w n h = rw (within_holds (length s) at w h)
 
 -- and the read gives the number
-pub number_there : (order : List ℕ → ℕ) (s : List ℕ) (at w : ℕ) → Within (length s) at w → number_at order s at w ≡ some (order (take w (drop at s)))
+pub number_there : (order : List ℕ → ℕ) (s : List ℕ) (at w : ℕ) → Within (length s) at w → number_at order s at w ≡ Some (order (take w (drop at s)))
 unfolding number_at
 number_there order s at w h = rw (within_holds (length s) at w h)
 
 -- so a caller that knows the place has the number, and no other answer
 module _ (order : List ℕ → ℕ) (s : List ℕ) (at w : ℕ) (there : Within (length s) at w) where
-  pub read_number : (r : Number) (n : ℕ) → number_of r ≡ number_at order s at w → r ≡ Read n → n ≡ order (take w (drop at s))
+  pub read_number : (r : Option ℕ) (n : ℕ) → r ≡ number_at order s at w → r ≡ Some n → n ≡ order (take w (drop at s))
   read_number r n p q =
-      let e : some n ≡ some (order (take w (drop at s))) = ap number_of (sym q) ∙ p ∙ number_there order s at w there in
+      let e : Some n ≡ Some (order (take w (drop at s))) = sym q ∙ p ∙ number_there order s at w there in
       cc
 
-  pub read_missing : (r : Number) → number_of r ≡ number_at order s at w → r ≡ Missing → ⊥
+  pub read_missing : (r : Option ℕ) → r ≡ number_at order s at w → r ≡ None → ⊥
   read_missing r p q =
-      let e : none ≡ some (order (take w (drop at s))) = ap number_of (sym q) ∙ p ∙ number_there order s at w there in
+      let e : None ≡ Some (order (take w (drop at s))) = sym q ∙ p ∙ number_there order s at w there in
       let z : ◌≡◌ {A = ℕ} 0 1 = cc in
       omega arith

@@ -4,28 +4,13 @@
 ghost use Rattle.std.specs.Prelude.{◌≡◌, ◌+◌, ◌≤◌, ◌<◌, length, get_or, take, drop};
 ghost use Rattle.slices.specs.Overwriting.{overwritten};
 ghost use Rattle.endian.specs.Numbers.{little, big, big_bytes};
-ghost use Rattle.endian.specs.Places.{holds, number_at, written_at, number_of};
+ghost use Rattle.endian.specs.Places.{holds, number_at, written_at};
 
-// What a read finds: the number, or that no number of that width stands there, since the slice
-// ends before it or the width is above 8.
-#[derive(Clone, Copy)]
-pub enum Number {
-    Read(u64),
-    Missing,
-}
-
-// Whether a number of width bytes can stand at a place of a slice of len bytes. Nothing is added
-// before it is compared.
+// Whether a number of width bytes can stand at a place of a slice of len bytes.
 fn holds(len: usize, at: usize, width: usize) -> bool
     ensures { result ≡ holds len at width }
 {
-    if 8 < width {
-        return false;
-    }
-    if len < width {
-        return false;
-    }
-    at <= len - width
+    width <= 8 && slices::lies(len, at, width)
 }
 
 fn byte(s: &[u8], i: usize) -> u64
@@ -40,11 +25,9 @@ fn big(s: &[u8], at: usize, width: usize) -> u64
     requires { (width ≤ 8) × (at + width ≤ length s.now) }
     ensures { result ≡ big (take width (drop at s.now)) }
 {
-    let mut n: u64 = 0;
-    let mut i: usize = 0;
-    while i < width {
+    let mut n = 0;
+    for i in 0..width {
         n = n * 256 + byte(s, at + i);
-        i += 1;
     }
     n
 }
@@ -55,32 +38,31 @@ fn little(s: &[u8], at: usize, width: usize) -> u64
     requires { (width ≤ 8) × (at + width ≤ length s.now) }
     ensures { result ≡ little (take width (drop at s.now)) }
 {
-    let mut n: u64 = 0;
-    let mut i: usize = 0;
-    while i < width {
+    let mut n = 0;
+    for i in 0..width {
         n += byte(s, at + i) << (8 * i);
-        i += 1;
     }
     n
 }
 
-pub fn read_big(s: &[u8], at: usize, width: usize) -> Number
-    ensures { number_of result ≡ number_at big s.now at width }
+// None: no number of that width stands there, since the slice ends before it or the width is above 8.
+pub fn read_big(s: &[u8], at: usize, width: usize) -> Option<u64>
+    ensures { result ≡ number_at big s.now at width }
 {
     if holds(s.len(), at, width) {
-        Number::Read(big(s, at, width))
+        Some(big(s, at, width))
     } else {
-        Number::Missing
+        None
     }
 }
 
-pub fn read_little(s: &[u8], at: usize, width: usize) -> Number
-    ensures { number_of result ≡ number_at little s.now at width }
+pub fn read_little(s: &[u8], at: usize, width: usize) -> Option<u64>
+    ensures { result ≡ number_at little s.now at width }
 {
     if holds(s.len(), at, width) {
-        Number::Read(little(s, at, width))
+        Some(little(s, at, width))
     } else {
-        Number::Missing
+        None
     }
 }
 
@@ -90,11 +72,9 @@ fn place(out: &mut [u8], at: usize, width: usize, n: u64)
     ensures { out.new ≡ overwritten out.old at (big_bytes width n) }
 {
     let mut rest = n;
-    let mut left = width;
-    while 0 < left {
-        left -= 1;
+    for left in (0..width).rev() {
         out[at + left] = (rest % 256) as u8;
-        rest = rest / 256;
+        rest /= 256;
     }
 }
 

@@ -2,7 +2,7 @@
 use Rattle.std.specs.Prelude.{ℕ, ◌↔◌, ◌≡◌}
 use mathlib.Core.List.Memᴰ
 use mathlib.Core.List.{List, [], ◌∷◌, map, Memᴰ}
-use Rattle.std.proofs.Math.Option.{Option, none, some}
+use Rattle.std.specs.Prelude.{Option, None, Some}
 use Rattle.std.proofs.Math.Path.{refl, sym, ap, subst}
 use Rattle.std.proofs.Common.{◌∙◌}
 use Rattle.slices.specs.Logic.{absurd_numbers}
@@ -62,33 +62,33 @@ module _ (limit : ℕ) (s bucket object : List ℕ) where
     looked = by found answered
       where
         by : (o : Option Version) → lookup limit s bucket object ≡ answer_of o → o ≡ current-answer.current ps bucket object
-        by none e = sym ((none_exactly ps bucket object).1 ((lookup_exactly limit s bucket object current-answer.nothing).0 e).1)
-        by (some v) e = sym ((current_exactly ps bucket object v).1 ((lookup_exactly limit s bucket object (current-answer.found v)).0 e).1)
+        by None e = sym ((none_exactly ps bucket object).1 ((lookup_exactly limit s bucket object current-answer.nothing).0 e).1)
+        by (Some v) e = sym ((current_exactly ps bucket object v).1 ((lookup_exactly limit s bucket object (current-answer.found v)).0 e).1)
 
     all_answered : Answers limit s bucket object
     all_answered = by found answered
       where
         by : (o : Option Version) → lookup limit s bucket object ≡ answer_of o → Answers limit s bucket object
-        by none e = ((lookup_exactly limit s bucket object current-answer.nothing).0 e).0
-        by (some v) e = ((lookup_exactly limit s bucket object (current-answer.found v)).0 e).0
+        by None e = ((lookup_exactly limit s bucket object current-answer.nothing).0 e).0
+        by (Some v) e = ((lookup_exactly limit s bucket object (current-answer.found v)).0 e).0
 
-    finds : (c : Version) → found ≡ some c → Finds c
+    finds : (c : Version) → found ≡ Some c → Finds c
     finds c e = answered ∙ ap answer_of e
 
-    found_by_lem : (c : Version) → Finds c → found ≡ some c
+    found_by_lem : (c : Version) → Finds c → found ≡ Some c
     found_by_lem c e = by found (sym answered ∙ e)
       where
-        by : (o : Option Version) → answer_of o ≡ current-answer.found c → o ≡ some c
-        by none q = absurd_numbers (cc)
-        by (some v) q = cc
+        by : (o : Option Version) → answer_of o ≡ current-answer.found c → o ≡ Some c
+        by None q = absurd_numbers (cc)
+        by (Some v) q = cc
 
     lines_are : explain limit s bucket object ≡ explained (lines_of ps found bucket object)
     unfolding explain
     lines_are = rw answered (by found)
       where
         by : (o : Option Version) → explain_by (answer_of o) ps bucket object ≡ explained (lines_of ps o bucket object)
-        by none = refl
-        by (some v) = refl
+        by None = refl
+        by (Some v) = refl
 
     lines_hold : Explains limit s bucket object (lines_of ps found bucket object)
     unfolding lines_of
@@ -108,7 +108,7 @@ module _ (limit : ℕ) (s bucket object : List ℕ) where
               named = x.1;
               stands = ap (λ (k : Line). k.start) (sym e);
               says = subst (Says ps Finds v) (ap (λ (k : Line). k.reason) e)
-                  (says_with ps (λ c. found ≡ some c) Finds finds v (reason_of ps found v)
+                  (says_with ps (λ c. found ≡ Some c) Finds finds v (reason_of ps found v)
                   (reason_holds ps (pack_rises limit s) bucket object found looked x.0 v x.1));
             }
 
@@ -129,7 +129,7 @@ module _ (limit : ℕ) (s bucket object : List ℕ) where
             let same : v ≡ w = same_version (sym h.named.tells ∙ ap version_of place ∙ y.1.tells) in
             let reason : reason_of ps found v ≡ l.reason =
             holds_reason ps (pack_rises limit s) bucket object found looked h.at v h.named l.reason
-            (says_with ps Finds (λ c. found ≡ some c) found_by_lem v l.reason h.says) in
+            (says_with ps Finds (λ c. found ≡ Some c) found_by_lem v l.reason h.says) in
             let line : l ≡ line_of ps found v = λ i. record { start = h.stands i; reason = sym reason i } in
             line ∙ ap (line_of ps found) same ∙ e
 
@@ -139,8 +139,8 @@ module _ (limit : ℕ) (s bucket object : List ℕ) where
     where
       by : (a : current-answer.Answer) → lookup limit s bucket object ≡ a → explain_by a ps bucket object ≡ explained ls
           → (o : Option Version) × (lookup limit s bucket object ≡ answer_of o)
-      by current-answer.nothing q f = (none, q)
-      by (current-answer.found v) q f = (some v, q)
+      by current-answer.nothing q f = (None, q)
+      by (current-answer.found v) q f = (Some v, q)
       by (current-answer.refused_at n at) q f = absurd_numbers (cc)
       by (current-answer.alone n) q f = absurd_numbers (cc)
 
@@ -148,8 +148,8 @@ module _ (limit : ℕ) (s bucket object : List ℕ) where
   answered_all x = by (current-answer.current ps bucket object) refl
     where
       by : (o : Option Version) → current-answer.current ps bucket object ≡ o → (o : Option Version) × (lookup limit s bucket object ≡ answer_of o)
-      by none e = (none, (lookup_exactly limit s bucket object current-answer.nothing).1 (x, (none_exactly ps bucket object).0 e))
-      by (some v) e = (some v, (lookup_exactly limit s bucket object (current-answer.found v)).1 (x, (current_exactly ps bucket object v).0 e))
+      by None e = (None, (lookup_exactly limit s bucket object current-answer.nothing).1 (x, (none_exactly ps bucket object).0 e))
+      by (Some v) e = (Some v, (lookup_exactly limit s bucket object (current-answer.found v)).1 (x, (current_exactly ps bucket object v).0 e))
 
   -- and the lines are told exactly when they hold
   pub explain_exactly : (ls : List Line) → explain limit s bucket object ≡ explained ls ↔ Explains limit s bucket object ls

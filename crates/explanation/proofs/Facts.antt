@@ -4,7 +4,7 @@ use Rattle.std.proofs.Math.Bool.{true, false, cond}
 use mathlib.Core.List.Memᴰ
 use mathlib.Core.List.{List}
 use Rattle.std.proofs.Math.Logic.{⊎_elim}
-use Rattle.std.proofs.Math.Option.{Option, none, some}
+use Rattle.std.specs.Prelude.{Option, None, Some}
 use Rattle.std.proofs.Math.Path.{refl, ap}
 use Rattle.std.proofs.Common.{sym, subst, ◌∙◌, arith, eq-eqb, ne_eqb, eqb-true}
 use Rattle.std.proofs.lemmas.Bool.{eqb-false}
@@ -40,7 +40,7 @@ holds_tests i (unreadable n) = (λ e. clash e refl, λ e. let q = e.1 in absurd_
 
 -- ---- what a record tells
 
-held_tells : (p : Placed) (i : Identity) → Holds i p.role → (v : Version) × ((version_of p ≡ some v) × (v.identifier ≡ i))
+held_tells : (p : Placed) (i : Identity) → Holds i p.role → (v : Version) × ((version_of p ≡ Some v) × (v.identifier ≡ i))
 unfolding version_of
 held_tells p i h = (record { identifier = i; delete_flag = h.0; value = p.value; start = p.start }, (ap (version_by p.start p.value) h.1, refl))
 
@@ -49,7 +49,7 @@ held_tells p i h = (record { identifier = i; delete_flag = h.0; value = p.value;
 module _ (ps : List Placed) (rises : Rising ps) (bucket object : List ℕ) (found : Option Version)
     (looked : found ≡ current-answer.current ps bucket object) where
   abbrev Found : Version → Type 0
-  Found c = found ≡ some c
+  Found c = found ≡ Some c
 
   is_current : (c : Version) → Found c → IsCurrent ps bucket object c
   is_current c e = current_is ps bucket object c (sym looked ∙ e)
@@ -105,11 +105,11 @@ module _ (ps : List Placed) (rises : Rising ps) (bucket object : List ℕ) (foun
 
         beside : Kept ps v.identifier → Earliest ps (Holds v.identifier) v.start → (o : Option Version) → found ≡ o
             → Says ps Found v (unless_older v.start o (cond v.delete_flag current_marker current))
-        beside kept first none e = absurd ((none_exactly ps bucket object).0 (sym looked ∙ e) p v named.there (live kept))
-        beside kept first (some c) e = by (eqb c.start v.start) refl
+        beside kept first None e = absurd ((none_exactly ps bucket object).0 (sym looked ∙ e) p v named.there (live kept))
+        beside kept first (Some c) e = by (eqb c.start v.start) refl
           where
             by : (t : Bool) → eqb c.start v.start ≡ t → Says ps Found v (cond t (cond v.delete_flag current_marker current) (older c))
-            by true q = flagged (e ∙ ap some (same_start c e (eqb-true c.start v.start q))) v.delete_flag refl
+            by true q = flagged (e ∙ ap Some (same_start c e (eqb-true c.start v.start q))) v.delete_flag refl
             by false q = (kept, (first, (e, is_older kept first c e (eqb-false c.start v.start q))))
 
         stands : Kept ps v.identifier → (k : ℕ) → Earliest ps (Holds v.identifier) k → (t : Bool) → eqb k v.start ≡ t
@@ -125,9 +125,9 @@ module _ (ps : List Placed) (rises : Rising ps) (bucket object : List ℕ) (foun
 
         go : (d : Option ℕ) → first_deletion ps v.identifier ≡ d → (f : Option ℕ) → first_version ps v.identifier ≡ f → (o : Option Version) → found ≡ o
             → Says ps Found v (unless_removed d (unless_repeated v.start f (unless_older v.start o (cond v.delete_flag current_marker current))))
-        go (some k) d f g o e = such_first (deletes v.identifier) (Deletes v.identifier) (deletes_tests v.identifier) ps rises k d
-        go none d none g o e = absurd (none_such (holds v.identifier) (Holds v.identifier) (holds_tests v.identifier) ps g p named.there held)
-        go none d (some k) g o e =
+        go (Some k) d f g o e = such_first (deletes v.identifier) (Deletes v.identifier) (deletes_tests v.identifier) ps rises k d
+        go None d None g o e = absurd (none_such (holds v.identifier) (Holds v.identifier) (holds_tests v.identifier) ps g p named.there held)
+        go None d (Some k) g o e =
             stands (λ q m r. none_such (deletes v.identifier) (Deletes v.identifier) (deletes_tests v.identifier) ps d q m r) k
             (such_first (holds v.identifier) (Holds v.identifier) (holds_tests v.identifier) ps rises k g) (eqb k v.start) refl o e
 
@@ -135,10 +135,10 @@ module _ (ps : List Placed) (rises : Rising ps) (bucket object : List ℕ) (foun
     unfolding reason_of
     holds_reason r h = by r h
       where
-        none_deleted : Kept ps v.identifier → first_deletion ps v.identifier ≡ none
+        none_deleted : Kept ps v.identifier → first_deletion ps v.identifier ≡ None
         none_deleted kept = such_none (deletes v.identifier) (Deletes v.identifier) (deletes_tests v.identifier) ps rises kept
 
-        version_at_lem : (k : ℕ) → Earliest ps (Holds v.identifier) k → first_version ps v.identifier ≡ some k
+        version_at_lem : (k : ℕ) → Earliest ps (Holds v.identifier) k → first_version ps v.identifier ≡ Some k
         version_at_lem k x = first_such (holds v.identifier) (Holds v.identifier) (holds_tests v.identifier) ps rises k x
 
         -- no record before the current one has its identifier
@@ -160,7 +160,7 @@ module _ (ps : List Placed) (rises : Rising ps) (bucket object : List ℕ) (foun
                   (Memᴰ.append_cases x.front (rw x.cut at m));
             }
 
-        found_kept : Found v → first_deletion ps v.identifier ≡ none
+        found_kept : Found v → first_deletion ps v.identifier ≡ None
         found_kept e = none_deleted (is_current v e).live.kept
 
         own : eqb v.start v.start ≡ true

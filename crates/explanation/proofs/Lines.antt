@@ -2,7 +2,7 @@
 use Prim.Native.Nat.{ℕ, ◌+◌, ◌*◌, ◌≤◌}
 use mathlib.Core.Bool.{Bool, true, false, cond}
 use mathlib.Core.List.{List, [], ◌∷◌, ◌++◌, map}
-use mathlib.Core.Option.{Option, none, some}
+use Rattle.std.specs.Prelude.{Option, None, Some}
 use mathlib.Core.Path.{◌≡◌, refl, sym, ap, ◌∙◌}
 use native.Mathlib.Omega.{arith}
 use lib.ListN.{length, length-map}
@@ -19,36 +19,35 @@ use Rattle.lookup_records.specs.declared.Visited.{Visited}
 use Rattle.lookup.specs.Answers.{placed_in}
 use Rattle.explanation.specs.Reasons.{Line, line_of, is_named, with_first, versions_of, lines_of, rows_of}
 use Rattle.explanation.specs.Answers.{count_of, words_in, count_in, lines_for}
-use Rattle.explanation.specs.declared.Told.{Told}
-use Rattle.explanation.specs.declared.Told.TheVariants as told-answer
+use Rattle.explanation.specs.declared.Row.{Row}
 
 -- ---- lengths
 
 length_first : (o : Option Version) (vs : List Version) → length (with_first o vs) ≡ count_of o + length vs
-length_first none vs = omega arith
-length_first (some v) vs = omega arith
+length_first None vs = omega arith
+length_first (Some v) vs = omega arith
 
 length_rows : (ls : List Line) → length (rows_of ls) ≡ 3 * length ls
 unfolding rows_of
 length_rows [] = refl
 length_rows (l ∷ ls) = omega (arith, length_rows ls)
 
-length_words : (t : Told) → length (words_in t) ≡ 3 * count_in t
-length_words told-answer.Nothing = refl
-length_words (told-answer.Line r) = refl
+length_words : (t : Option Row) → length (words_in t) ≡ 3 * count_in t
+length_words None = refl
+length_words (Some r) = refl
 
 length_for : (ps : List Placed) (found o : Option Version) → length (rows_of (lines_for ps found o)) ≡ 3 * count_of o
 unfolding rows_of
-length_for ps found none = refl
-length_for ps found (some v) = refl
+length_for ps found None = refl
+length_for ps found (Some v) = refl
 
 -- where a version stands, and its value, play no part in whether it counts
 counts_anywhere : (test : Identity → Bool) (start : ℕ) (value : List ℕ) (r : Role) → count_of (filtered test (version_by start value r)) ≡ count_of (filtered test (version_by 0 [] r))
 unfolding filtered
 counts_anywhere test start value (version i f) = by (test i)
   where
-    by : (t : Bool) → count_of (cond t (some (record { identifier = i; delete_flag = f; value = value; start = start })) none)
-        ≡ count_of (cond t (some (record { identifier = i; delete_flag = f; value = []; start = 0 })) none)
+    by : (t : Bool) → count_of (cond t (Some (record { identifier = i; delete_flag = f; value = value; start = start })) None)
+        ≡ count_of (cond t (Some (record { identifier = i; delete_flag = f; value = []; start = 0 })) None)
     by true = refl
     by false = refl
 counts_anywhere test start value (deletion i) = refl
@@ -86,8 +85,8 @@ module _ (s bucket object : List ℕ) where
   counts_none e = record { so_far = omega arith; checked = e; inside = omega arith; few = omega arith }
 
   count_few : (o : Option Version) → count_of o ≤ 1
-  count_few none = omega arith
-  count_few (some v) = omega arith
+  count_few None = omega arith
+  count_few (Some v) = omega arith
 
   module _ (at count : ℕ) (k : Counts at count) where
     pub counts_more : (v : Visited) → Walked version_delete_tag s at v → (here : ℕ)
@@ -130,10 +129,10 @@ module _ (s bucket object : List ℕ) where
     rows_on : (o : Option Version) (vs : List Version)
         → rows_of (map (line_of all found) (with_first o vs)) ≡ rows_of (lines_for all found o) ++ rows_of (map (line_of all found) vs)
     unfolding rows_of
-    rows_on none vs = refl
-    rows_on (some v) vs = refl
+    rows_on None vs = refl
+    rows_on (Some v) vs = refl
 
-    module _ (before told : List ℕ) (i at : ℕ) (f : Filled before told i at) (v : Visited) (walked : Walked version_delete_tag s at v) (line : Told)
+    module _ (before told : List ℕ) (i at : ℕ) (f : Filled before told i at) (v : Visited) (walked : Walked version_delete_tag s at v) (line : Option Row)
         (is : words_in line ≡ rows_of (lines_for all found (offered at v))) where
       counts_one : count_in line ≡ count_of (offered at v)
       counts_one = omega (arith, length_words line, ap length is, length_for all found (offered at v))

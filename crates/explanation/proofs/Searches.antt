@@ -2,7 +2,7 @@
 use Prim.Native.Nat.{ℕ}
 use mathlib.Core.Bool.{Bool, true, false}
 use mathlib.Core.List.{List}
-use mathlib.Core.Option.{none, some}
+use Rattle.std.specs.Prelude.{None, Some}
 use mathlib.Core.Path.{◌≡◌, refl, sym, ◌∙◌}
 use Rattle.slices.specs.Logic.{absurd_numbers}
 use Rattle.refusals.specs.Limit.{pack_limit}
@@ -17,7 +17,7 @@ use Rattle.lookup_records.specs.declared.Visited.{Visited}
 use Rattle.explanation.specs.Reasons.{first_where, holds}
 
 module _ (test : Role → Bool) (skipped : ℕ) (s : List ℕ) (at : ℕ) (w : Walks (first_where test) s at) (v : Visited) (walked : Walked skipped s at v) where
-  pub found_here : test (stands_at s at v walked).role ≡ true → some at ≡ first_where test (placed_from pack_limit s 0)
+  pub found_here : test (stands_at s at v walked).role ≡ true → Some at ≡ first_where test (placed_from pack_limit s 0)
   unfolding first_where
   found_here e = sym (first_there (first_where test) s skipped at w v walked ∙ rw e)
 
@@ -27,7 +27,7 @@ module _ (test : Role → Bool) (skipped : ℕ) (s : List ℕ) (at : ℕ) (w : W
 
 -- ---- a record that holds a version: no `vd` does
 
-none_held : (i : Identity) (r : Role) (start : ℕ) (value : List ℕ) → version_by start value r ≡ none → holds i r ≡ false
+none_held : (i : Identity) (r : Role) (start : ℕ) (value : List ℕ) → version_by start value r ≡ None → holds i r ≡ false
 unfolding holds
 none_held i (version j f) start value e = absurd_numbers (cc)
 none_held i (deletion j) start value e = refl

@@ -3,7 +3,7 @@ use Rattle.std.specs.Prelude.{ℕ, ◌↔◌, ◌≡◌}
 use mathlib.Core.List.Memᴰ
 use mathlib.Core.List.{List, [], ◌∷◌, map, Memᴰ}
 use Rattle.std.proofs.Math.Logic.{⊎_elim}
-use Rattle.std.proofs.Math.Option.{Option, none, some}
+use Rattle.std.specs.Prelude.{Option, None, Some}
 use Rattle.std.proofs.Math.Path.{refl, sym, ap}
 use Rattle.std.proofs.Common.{◌∙◌}
 use Rattle.slices.specs.Logic.{absurd_numbers}
@@ -28,10 +28,10 @@ module _ (bucket object : List ℕ) where
 
       go : (o : Option Version) → filtered (is_named bucket object) (version_of p) ≡ o → Memᴰ v (with_first o (versions_of bucket object ps))
           → (Memᴰ v (versions_of bucket object ps) → (q : Placed) × OfName ps bucket object q v) → (q : Placed) × OfName (p ∷ ps) bucket object q v
-      go none e n rest = further (rest n)
-      go (some w) e n rest = ⊎_elim (λ same. (p, here (e ∙ ap some (sym same)))) (λ k. further (rest k)) (Memᴰ.cases_cons n)
+      go None e n rest = further (rest n)
+      go (Some w) e n rest = ⊎_elim (λ same. (p, here (e ∙ ap Some (sym same)))) (λ k. further (rest k)) (Memᴰ.cases_cons n)
         where
-          here : filtered (is_named bucket object) (version_of p) ≡ some v → OfName (p ∷ ps) bucket object p v
+          here : filtered (is_named bucket object) (version_of p) ≡ Some v → OfName (p ∷ ps) bucket object p v
           here f =
               let passes = filtered_some (is_named bucket object) (version_of p) v f in
               let name = has_name_lem bucket object v.identifier passes.test_passed in
@@ -47,8 +47,8 @@ module _ (bucket object : List ℕ) where
       (Memᴰ.cases_cons x.there)
     where
       later : (o : Option Version) → Memᴰ v (versions_of bucket object ps) → Memᴰ v (with_first o (versions_of bucket object ps))
-      later none m = m
-      later (some w) m = Memᴰ.tail m
+      later None m = m
+      later (Some w) m = Memᴰ.tail m
 
       first : p ≡ q → Memᴰ v (with_first (filtered (is_named bucket object) (version_of q)) (versions_of bucket object ps))
       first same =

@@ -4,7 +4,7 @@ use Rattle.std.proofs.Math.Bool.{true, false, cond}
 use mathlib.Core.List.Memᴰ
 use mathlib.Core.List.{List, [], ◌∷◌, Memᴰ}
 use Rattle.std.proofs.Math.Logic.{⊎_elim}
-use Rattle.std.proofs.Math.Option.{Option, none, some}
+use Rattle.std.specs.Prelude.{Option, None, Some}
 use Rattle.std.proofs.Math.Path.{refl, ap}
 use Rattle.std.proofs.Common.{subst, ◌∙◌, arith}
 use Rattle.slices.specs.Logic.{absurd_numbers, clash}
@@ -43,29 +43,29 @@ Says ps Found v (removed place) = Earliest ps (Deletes v.identifier) place
 -- p is a version record of the name; v is what it tells
 pub record OfName (ps : List Placed) (bucket object : List ℕ) (p : Placed) (v : Version) : Type 0 where
   pub there : Memᴰ p ps
-  pub tells : version_of p ≡ some v
+  pub tells : version_of p ≡ Some v
   pub in_bucket : v.identifier.bucket ≡ bucket
   pub is_object_lem : v.identifier.object ≡ object
 
 -- ---- tests and what they test
 
 module _ (test : Role → Bool) (Is : Role → Type 0) (tests : (r : Role) → test r ≡ true ↔ Is r) where
-  pub none_such : (ps : List Placed) → first_where test ps ≡ none → (q : Placed) → Memᴰ q ps → Is q.role → ⊥
+  pub none_such : (ps : List Placed) → first_where test ps ≡ None → (q : Placed) → Memᴰ q ps → Is q.role → ⊥
   unfolding first_where
   none_such [] e q m is = Memᴰ.not-nil m
   none_such (p ∷ ps) e q m is = go (test p.role) refl e (λ h n. none_such ps h q n is)
     where
-      go : (t : Bool) → test p.role ≡ t → cond t (some p.start) (first_where test ps) ≡ none → (first_where test ps ≡ none → Memᴰ q ps → ⊥) → ⊥
+      go : (t : Bool) → test p.role ≡ t → cond t (Some p.start) (first_where test ps) ≡ None → (first_where test ps ≡ None → Memᴰ q ps → ⊥) → ⊥
       go true h f rest = absurd_numbers (cc)
       go false h f rest = ⊎_elim (λ same. clash ((tests p.role).1 (subst (λ (x : Placed). Is x.role) same is)) h) (rest f) (Memᴰ.cases_cons m)
 
-  pub such_first : (ps : List Placed) → Rising ps → (place : ℕ) → first_where test ps ≡ some place → Earliest ps Is place
+  pub such_first : (ps : List Placed) → Rising ps → (place : ℕ) → first_where test ps ≡ Some place → Earliest ps Is place
   unfolding first_where
   such_first [] rises place e = absurd_numbers (cc)
   such_first (p ∷ ps) rises place e = go (test p.role) refl e (λ h. such_first ps rises.1 place h)
     where
-      go : (t : Bool) → test p.role ≡ t → cond t (some p.start) (first_where test ps) ≡ some place
-          → (first_where test ps ≡ some place → Earliest ps Is place) → Earliest (p ∷ ps) Is place
+      go : (t : Bool) → test p.role ≡ t → cond t (Some p.start) (first_where test ps) ≡ Some place
+          → (first_where test ps ≡ Some place → Earliest ps Is place) → Earliest (p ∷ ps) Is place
       go true h f rest =
           let here : p.start ≡ place = cc in
           record {
@@ -88,30 +88,30 @@ module _ (test : Role → Bool) (Is : Role → Type 0) (tests : (r : Role) → t
                 ⊎_elim (λ same. clash ((tests p.role).1 (subst (λ (x : Placed). Is x.role) same is)) h) (λ n. r.earliest q n is) (Memᴰ.cases_cons m);
           }
 
-  pub first_such : (ps : List Placed) → Rising ps → (place : ℕ) → Earliest ps Is place → first_where test ps ≡ some place
+  pub first_such : (ps : List Placed) → Rising ps → (place : ℕ) → Earliest ps Is place → first_where test ps ≡ Some place
   first_such ps rises place x = go (first_where test ps) refl
     where
-      go : (o : Option ℕ) → first_where test ps ≡ o → first_where test ps ≡ some place
-      go none e = absurd (none_such ps e x.at x.there x.is)
-      go (some k) e =
+      go : (o : Option ℕ) → first_where test ps ≡ o → first_where test ps ≡ Some place
+      go None e = absurd (none_such ps e x.at x.there x.is)
+      go (Some k) e =
           let y = such_first ps rises k e in
           let same : k ≡ place = omega (arith, x.stands, y.stands, x.earliest y.at y.there y.is, y.earliest x.at x.there x.is) in
-          e ∙ ap some same
+          e ∙ ap Some same
 
-  pub such_none : (ps : List Placed) → Rising ps → ((q : Placed) → Memᴰ q ps → Is q.role → ⊥) → first_where test ps ≡ none
+  pub such_none : (ps : List Placed) → Rising ps → ((q : Placed) → Memᴰ q ps → Is q.role → ⊥) → first_where test ps ≡ None
   such_none ps rises h = go (first_where test ps) refl
     where
-      go : (o : Option ℕ) → first_where test ps ≡ o → first_where test ps ≡ none
-      go none e = e
-      go (some k) e = let y = such_first ps rises k e in absurd (h y.at y.there y.is)
+      go : (o : Option ℕ) → first_where test ps ≡ o → first_where test ps ≡ None
+      go None e = e
+      go (Some k) e = let y = such_first ps rises k e in absurd (h y.at y.there y.is)
 
 -- ---- what a record tells
 
-pub told_role : (p : Placed) (v : Version) → version_of p ≡ some v → (p.role ≡ version v.identifier v.delete_flag) × (p.start ≡ v.start)
+pub told_role : (p : Placed) (v : Version) → version_of p ≡ Some v → (p.role ≡ version v.identifier v.delete_flag) × (p.start ≡ v.start)
 unfolding version_of
 told_role p v e = go p.role refl e
   where
-    go : (r : Role) → p.role ≡ r → version_by p.start p.value r ≡ some v → (p.role ≡ version v.identifier v.delete_flag) × (p.start ≡ v.start)
+    go : (r : Role) → p.role ≡ r → version_by p.start p.value r ≡ Some v → (p.role ≡ version v.identifier v.delete_flag) × (p.start ≡ v.start)
     go (version i f) q h =
         let same : record { identifier = i; delete_flag = f; value = p.value; start = p.start } ≡ v = cc in
         (q ∙ ap (λ (x : Version). version x.identifier x.delete_flag) same, ap (λ (x : Version). x.start) same)

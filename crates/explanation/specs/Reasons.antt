@@ -1,6 +1,6 @@
 -- Why a version is current, or why not: a line for each version record of a name (change request 3).
 use Rattle.std.specs.Prelude.{ℕ, Bool, false, cond, List, [], ◌∷◌, ◌++◌, map, eqb}
-use Rattle.std.proofs.Math.Option.{Option, none, some}
+use Rattle.std.specs.Prelude.{Option, None, Some}
 use Rattle.pack.specs.Reading.{reading}
 use Rattle.identifier.specs.Identity.{Identity, same_identity}
 use Rattle.held_identifier.specs.Held.{has_name}
@@ -22,8 +22,8 @@ pub record Line : Type 0 where
 
 -- the start of the first record whose role passes a test
 unfoldable pub first_where : (Role → Bool) → List Placed → Option ℕ
-first_where test [] = none
-first_where test (p ∷ ps) = cond (test p.role) (some p.start) (first_where test ps)
+first_where test [] = None
+first_where test (p ∷ ps) = cond (test p.role) (Some p.start) (first_where test ps)
 
 -- a version with this identifier
 unfoldable pub holds : Identity → Role → Bool
@@ -42,17 +42,17 @@ first_version ps i = first_where (holds i) ps
 -- ---- the reason of one version: removal comes first, then repeat, then older
 
 abbrev pub unless_removed : Option ℕ → Reason → Reason
-unless_removed none next = next
-unless_removed (some p) next = removed p
+unless_removed None next = next
+unless_removed (Some p) next = removed p
 
 -- its own record is a version record with its identifier
 abbrev pub unless_repeated : ℕ → Option ℕ → Reason → Reason
-unless_repeated start none next = next
-unless_repeated start (some p) next = cond (eqb p start) next (repeated p)
+unless_repeated start None next = next
+unless_repeated start (Some p) next = cond (eqb p start) next (repeated p)
 
 abbrev pub unless_older : ℕ → Option Version → Reason → Reason
-unless_older start none next = next
-unless_older start (some c) next = cond (eqb c.start start) next (older c)
+unless_older start None next = next
+unless_older start (Some c) next = cond (eqb c.start start) next (older c)
 
 -- among the records of a pack, with what the lookup finds there
 unfoldable pub reason_of : List Placed → Option Version → Version → Reason
@@ -66,11 +66,11 @@ line_of ps found v = record { start = v.start; reason = reason_of ps found v }
 -- ---- the lines of a name: one for each of its version records, in pack order
 
 abbrev pub is_named : List ℕ → List ℕ → Identity → Bool
-is_named bucket object i = has_name (some i) bucket object
+is_named bucket object i = has_name (Some i) bucket object
 
 abbrev pub with_first : Option Version → List Version → List Version
-with_first none vs = vs
-with_first (some v) vs = v ∷ vs
+with_first None vs = vs
+with_first (Some v) vs = v ∷ vs
 
 unfoldable pub versions_of : List ℕ → List ℕ → List Placed → List Version
 versions_of bucket object [] = []
@@ -88,8 +88,8 @@ pub data Answer : Type 0 where
 
 -- of the records of a pack, by what the lookup answers
 abbrev pub explain_by : current-answer.Answer → List Placed → List ℕ → List ℕ → Answer
-explain_by current-answer.nothing ps bucket object = explained (lines_of ps none bucket object)
-explain_by (current-answer.found v) ps bucket object = explained (lines_of ps (some v) bucket object)
+explain_by current-answer.nothing ps bucket object = explained (lines_of ps None bucket object)
+explain_by (current-answer.found v) ps bucket object = explained (lines_of ps (Some v) bucket object)
 explain_by (current-answer.refused_at n at) ps bucket object = refused_at n at
 explain_by (current-answer.alone n) ps bucket object = alone n
 

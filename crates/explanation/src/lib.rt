@@ -11,11 +11,12 @@ ghost use Rattle.identifier.specs.Identity.{identity};
 ghost use Rattle.current_version.specs.Current.{version_by, version_of, filtered, lookup};
 ghost use Rattle.lookup_records.specs.Answers.{role_in};
 ghost use Rattle.lookup_records.specs.Walk.{placed_from, Checked};
-ghost use Rattle.lookup.specs.Answers.{placed_in};
+ghost use Rattle.lookup.specs.Answers.{placed_in, candidate_in};
 ghost use Rattle.explanation.specs.Reasons.{first_deletion, first_version, holds, is_named, versions_of, line_of, lines_of, row_of, rows_of, explained, explain};
-ghost use Rattle.explanation.specs.Answers.{start_of, found_in, version_at, own_line, standing_line, count_of, row_in, words_in, count_in, lines_for, outcome, explained_of, told_after, fitted_lines, UlidTold};
+ghost use Rattle.explanation.specs.declared.Fault.TheVariants.{Lookup};
+ghost use Rattle.explanation.specs.Answers.{version_at, own_line, standing_line, count_of, row_in, words_in, count_in, lines_for, outcome, explained_of, told_after, fitted_lines, UlidTold};
 
-use lookup::Found;
+use lookup::Version;
 use lookup_records::{Role, Visited};
 use slices::Place;
 
@@ -33,16 +34,10 @@ pub const REMOVED: u64 = 4;
 
 // ---- the earliest record of its kind
 
-#[derive(Clone, Copy)]
-enum Start {
-    None,
-    At(usize),
-}
-
 // The earliest deletion of this version.
-fn first_deletion(pack: &[u8], ulid: &[u8], bucket: &[u8], object: &[u8]) -> Start
+fn first_deletion(pack: &[u8], ulid: &[u8], bucket: &[u8], object: &[u8]) -> Option<usize>
     requires { Checked pack.now 0 }
-    ensures { start_of result
+    ensures { result
         ≡ first_deletion (placed_from pack_limit pack.now 0) (identity ulid.now bucket.now object.now) }
 {
     let mut at = 0;
@@ -50,11 +45,11 @@ fn first_deletion(pack: &[u8], ulid: &[u8], bucket: &[u8], object: &[u8]) -> Sta
         let v = lookup_records::visit(pack, at, records::VERSION);
         let role = v.role;
         if lookup_records::names(pack, role, ulid, bucket, object) {
-            return Start::At(at);
+            return Some(at);
         }
         at = v.next;
     }
-    Start::None
+    None
 }
 
 // Whether the record is a version with this identifier.
@@ -70,9 +65,9 @@ fn holds(pack: &[u8], role: Role, ulid: &[u8], bucket: &[u8], object: &[u8]) -> 
 }
 
 // The earliest version record with this identifier.
-fn first_version(pack: &[u8], ulid: &[u8], bucket: &[u8], object: &[u8]) -> Start
+fn first_version(pack: &[u8], ulid: &[u8], bucket: &[u8], object: &[u8]) -> Option<usize>
     requires { Checked pack.now 0 }
-    ensures { start_of result
+    ensures { result
         ≡ first_version (placed_from pack_limit pack.now 0) (identity ulid.now bucket.now object.now) }
 {
     let mut at = 0;
@@ -80,11 +75,11 @@ fn first_version(pack: &[u8], ulid: &[u8], bucket: &[u8], object: &[u8]) -> Star
         let v = lookup_records::visit(pack, at, records::VERSION_DELETE);
         let role = v.role;
         if holds(pack, role, ulid, bucket, object) {
-            return Start::At(at);
+            return Some(at);
         }
         at = v.next;
     }
-    Start::None
+    None
 }
 
 // ---- the line of one record
@@ -115,10 +110,10 @@ fn own(at: usize, deleted: bool) -> Row
 }
 
 // Of a version that no deletion names and that repeats none.
-fn standing(pack: &[u8], at: usize, deleted: bool, found: Found) -> Row
-    ensures { row_in result ≡ row_of (standing_line at deleted (found_in pack.now found)) }
+fn standing(pack: &[u8], at: usize, deleted: bool, found: Option<Version>) -> Row
+    ensures { row_in result ≡ row_of (standing_line at deleted (candidate_in pack.now found)) }
 {
-    let Found::Current(c) = found else {
+    let Some(c) = found else {
         return own(at, deleted);
     };
     if c.start == at {
@@ -139,20 +134,20 @@ fn row_of(
     at: usize,
     ulid: &[u8],
     deleted: bool,
-    found: Found,
+    found: Option<Version>,
 ) -> Row
     requires { Checked pack.now 0 }
-    ensures { row_in result ≡ row_of (line_of (placed_from pack_limit pack.now 0) (found_in pack.now found)
+    ensures { row_in result ≡ row_of (line_of (placed_from pack_limit pack.now 0) (candidate_in pack.now found)
         (version_at at (identity ulid.now bucket.now object.now) deleted)) }
 {
-    if let Start::At(place) = first_deletion(pack, ulid, bucket, object) {
+    if let Some(place) = first_deletion(pack, ulid, bucket, object) {
         return Row {
             start: at,
             reason: REMOVED,
             place,
         };
     }
-    let Start::At(place) = first_version(pack, ulid, bucket, object) else {
+    let Some(place) = first_version(pack, ulid, bucket, object) else {
         return standing(pack, at, deleted, found);
     };
     if place == at {
@@ -165,27 +160,28 @@ fn row_of(
     }
 }
 
-#[derive(Clone, Copy)]
-enum Told {
-    Nothing,
-    Line(Row),
-}
-
 // Of the record at a place: only a version of the name has a line.
-fn line_at(pack: &[u8], bucket: &[u8], object: &[u8], at: usize, v: Visited, found: Found) -> Told
+fn line_at(
+    pack: &[u8],
+    bucket: &[u8],
+    object: &[u8],
+    at: usize,
+    v: Visited,
+    found: Option<Version>,
+) -> Option<Row>
     requires { Checked pack.now 0 }
-    ensures { words_in result ≡ rows_of (lines_for (placed_from pack_limit pack.now 0) (found_in pack.now found)
+    ensures { words_in result ≡ rows_of (lines_for (placed_from pack_limit pack.now 0) (candidate_in pack.now found)
         (filtered (is_named bucket.now object.now) (version_of (placed_in pack.now at v)))) }
 {
     let role = v.role;
     let Role::Version(_, t, deleted) = role else {
-        return Told::Nothing;
+        return None;
     };
     if !lookup_records::has_name(pack, t, bucket, object) {
-        return Told::Nothing;
+        return None;
     }
     let ulid = slices::part(pack, t.ulid);
-    Told::Line(row_of(pack, bucket, object, at, ulid, deleted, found))
+    Some(row_of(pack, bucket, object, at, ulid, deleted, found))
 }
 
 // ---- the lines of a name
@@ -219,14 +215,14 @@ fn count_versions(pack: &[u8], bucket: &[u8], object: &[u8]) -> usize
 }
 
 // A line goes behind the first i. Answers how many there then are.
-fn put(told: &mut [u64], i: usize, line: Told) -> usize
+fn put(told: &mut [u64], i: usize, line: Option<Row>) -> usize
     requires { 3 * i + length (words_in line) ≤ length told.old }
     ensures count { result ≡ i + count_in line }
     ensures told { told.new ≡ overwritten told.old (3 * i) (words_in line) }
 {
     match line {
-        Told::Nothing => i,
-        Told::Line(r) => {
+        None => i,
+        Some(r) => {
             let row = [r.start as u64, r.reason, r.place as u64];
             words::store(told, 3 * i, &row);
             i + 1
@@ -235,11 +231,11 @@ fn put(told: &mut [u64], i: usize, line: Told) -> usize
 }
 
 // All lines go to the front.
-fn fill(pack: &[u8], bucket: &[u8], object: &[u8], found: Found, told: &mut [u64])
+fn fill(pack: &[u8], bucket: &[u8], object: &[u8], found: Option<Version>, told: &mut [u64])
     requires { Checked pack.now 0
         × (3 * length (versions_of bucket.now object.now (placed_from pack_limit pack.now 0)) ≤ length told.old) }
     ensures { told.new ≡ overwritten told.old 0
-        (rows_of (lines_of (placed_from pack_limit pack.now 0) (found_in pack.now found) bucket.now object.now)) }
+        (rows_of (lines_of (placed_from pack_limit pack.now 0) (candidate_in pack.now found) bucket.now object.now)) }
 {
     let mut i = 0;
     let mut at = 0;
@@ -253,19 +249,27 @@ fn fill(pack: &[u8], bucket: &[u8], object: &[u8], found: Found, told: &mut [u64
 
 // ---- the explanation of a pack
 
+// How many lines there are, and where the ULID of the current version stands; where none is current, an
+// empty place.
 #[derive(Clone, Copy)]
-pub enum Explained {
-    // How many lines there are, and where the ULID of the current version stands; where none is
-    // current, an empty place.
-    Lines(usize, Place),
-    // The lookup's refusals: 20; 1, at 0; 2 to 8 with the record's start; 9 to 12, 14 to 18 and 22 of a
-    // version or version delete, with its start.
-    Inadmissible,
-    TooLong,
-    Fault(tlv::Fault, usize),
-    Unreadable(records::Fault, usize),
+pub struct Explanation {
+    pub count: usize,
+    pub ulid: Place,
+}
+
+#[derive(Clone, Copy)]
+pub enum Fault {
+    Lookup(lookup::Fault),
     // The list is too short: refusal 19.
-    Short,
+    NoRoom,
+}
+
+impl From<lookup::Fault> for Fault {
+    ghost from_gives = { λ f fault. fault ≡ Lookup f };
+
+    fn from(f: lookup::Fault) -> Fault {
+        Fault::Lookup(f)
+    }
 }
 
 // The lines of a name in a pack that can be read, with what the lookup found there.
@@ -273,50 +277,45 @@ fn tell(
     pack: &[u8],
     bucket: &[u8],
     object: &[u8],
-    found: Found,
+    found: Option<Version>,
     ulid: Place,
     told: &mut [u64],
-) -> Explained
+) -> Result<Explanation, Fault>
     requires { Checked pack.now 0 }
     ensures answer { result ≡ fitted_lines
-        (length (lines_of (placed_from pack_limit pack.now 0) (found_in pack.now found) bucket.now object.now))
+        (length (lines_of (placed_from pack_limit pack.now 0) (candidate_in pack.now found) bucket.now object.now))
         (length told.old / 3) ulid }
     ensures told { told.new ≡ told_after
-        (explained (lines_of (placed_from pack_limit pack.now 0) (found_in pack.now found) bucket.now object.now))
+        (explained (lines_of (placed_from pack_limit pack.now 0) (candidate_in pack.now found) bucket.now object.now))
         told.old }
 {
     let n = count_versions(pack, bucket, object);
     if told.len() / 3 < n {
-        return Explained::Short;
+        return Err(Fault::NoRoom);
     }
     fill(pack, bucket, object, found, told);
-    Explained::Lines(n, ulid)
+    Ok(Explanation { count: n, ulid })
 }
 
 // Start, reason and place of each version record of the name, in pack order: three words for each. The
 // place is that of the deletion or of the earlier record; of the current one its own start, and of an
 // older one the start of the current one.
-pub fn explain(pack: &[u8], bucket: &[u8], object: &[u8], told: &mut [u64]) -> Explained
+pub fn explain(
+    pack: &[u8],
+    bucket: &[u8],
+    object: &[u8],
+    told: &mut [u64],
+) -> Result<Explanation, Fault>
     ensures answer { explained_of result
         ≡ fitted (outcome (explain pack_limit pack.now bucket.now object.now)) (length told.old / 3) }
     ensures told { told.new
         ≡ told_after (explain pack_limit pack.now bucket.now object.now) told.old }
     ensures ulid { UlidTold pack.now (lookup pack_limit pack.now bucket.now object.now) result }
 {
-    let found = lookup::lookup(pack, bucket, object);
-    match found {
-        Found::Nothing => tell(
-            pack,
-            bucket,
-            object,
-            found,
-            Place { start: 0, len: 0 },
-            told,
-        ),
-        Found::Current(v) => tell(pack, bucket, object, found, v.identifier.ulid, told),
-        Found::Inadmissible => Explained::Inadmissible,
-        Found::TooLong => Explained::TooLong,
-        Found::Fault(f, at) => Explained::Fault(f, at),
-        Found::Unreadable(f, at) => Explained::Unreadable(f, at),
-    }
+    let found = lookup::lookup(pack, bucket, object)?;
+    let ulid = match found {
+        Some(v) => v.identifier.ulid,
+        None => Place { start: 0, len: 0 },
+    };
+    tell(pack, bucket, object, found, ulid, told)
 }

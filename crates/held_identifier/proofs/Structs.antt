@@ -1,80 +1,14 @@
 -- An identifier held by value: what its arrays and lengths come to, and the array that a text was copied into.
-use Prim.Native.Nat.{ℕ, zero, suc, ◌-◌, ◌<◌, ◌≤◌}
-use mathlib.Core.Path.{◌≡◌, refl, ap, sym, ◌∙◌}
-use mathlib.Core.Bool.{Bool, true, false, cond, ◌&&◌, and-false, and-true}
+use Prim.Native.Nat.{ℕ, zero, suc, ◌-◌}
+use mathlib.Core.Path.{◌≡◌, ap, ◌∙◌}
 use mathlib.Core.List.{List, append-nil}
-use mathlib.Core.Option.{none, some}
-use native.Mathlib.Nat.{le_refl, zero-add, sub-zero, zero-sub, suc-sub-suc}
+use native.Mathlib.Nat.{zero-add, sub-zero, zero-sub, suc-sub-suc}
 use native.Mathlib.Omega.{arith}
-use borrow.Author.Tests.{le-leb, lt-leb}
-use lib.Dec.{leb}
-use lib.ListN.{length, take, drop, replicate, length-replicate}
-use lib.Seq.{take-length}
-use Rattle.slices.specs.Bytes.{same_bytes}
+use lib.ListN.{length, drop, replicate, length-replicate}
 use Rattle.slices.specs.Overwriting.{overwritten}
-use Rattle.identifier.specs.Identity.{Identity, identity, same_identity}
-use Rattle.held_identifier.specs.Held.{named, same, same_fronts, has_name, padded, held, zeros}
+use Rattle.identifier.specs.Identity.{identity}
+use Rattle.held_identifier.specs.Held.{padded, held, zeros}
 use Rattle.held_identifier.specs.declared.Identifier.{Identifier}
-
--- the arrays have the lengths that their types say
-pub record Arrays (s : Identifier) : Type 0 where
-  pub bucket : length s.bucket ≡ 63
-  pub object : length s.object ≡ 1024
-
--- ---- the lengths
-
-module _ (s : Identifier) where
-  pub named_within : s.bucketlen ≤ 63 → s.objectlen ≤ 1024 → named s ≡ some (identity s.ulid (take s.bucketlen s.bucket) (take s.objectlen s.object))
-  unfolding named
-  named_within h g = rw (le-leb s.bucketlen 63 h, le-leb s.objectlen 1024 g)
-
-  pub named_bucket : 63 < s.bucketlen → named s ≡ none
-  unfolding named
-  named_bucket h = rw (lt-leb s.bucketlen 63 h)
-
-  pub named_object : 1024 < s.objectlen → named s ≡ none
-  unfolding named
-  named_object h = rw (lt-leb s.objectlen 1024 h, and-false (leb s.bucketlen 63))
-
--- ---- comparisons
-
--- the tests of two structs, in the definition's order and in the code's
-same_by : (i j : Identity) (p q r s : Bool)
-    → same (cond (p && q) (some i) none) (cond (r && s) (some j) none)
-    ≡ (same_bytes i.ulid j.ulid && (p && r && same_bytes i.bucket j.bucket) && (q && s && same_bytes i.object j.object))
-unfolding same same_identity
-same_by i j true true true true = refl
-same_by i j false q r s = rw (and-false (same_bytes i.ulid j.ulid))
-same_by i j true false r s = sym (and-false (same_bytes i.ulid j.ulid && (r && same_bytes i.bucket j.bucket)))
-same_by i j true true false s = rw (and-false (same_bytes i.ulid j.ulid))
-same_by i j true true true false = sym (and-false (same_bytes i.ulid j.ulid && same_bytes i.bucket j.bucket))
-
-pub same_tests : (a b : Identifier) → Arrays a → Arrays b
-    → same (named a) (named b)
-    ≡ (same_bytes a.ulid b.ulid && same_fronts a.bucketlen a.bucket b.bucketlen b.bucket && same_fronts a.objectlen a.object b.objectlen b.object)
-unfolding named same_fronts
-same_tests a b k l =
-    rw (k.bucket, k.object, l.bucket, l.object)
-    (same_by (identity a.ulid (take a.bucketlen a.bucket) (take a.objectlen a.object)) (identity b.ulid (take b.bucketlen b.bucket) (take b.objectlen b.object))
-    (leb a.bucketlen 63) (leb a.objectlen 1024) (leb b.bucketlen 63) (leb b.objectlen 1024))
-
-front_whole : (n : ℕ) (a b : List ℕ) → same_fronts n a (length b) b ≡ (leb n (length a) && same_bytes (take n a) b)
-unfolding same_fronts
-front_whole n a b = rw (le-leb (length b) (length b) (le_refl (length b)), take-length b) (ap (λ t. t && same_bytes (take n a) b) (and-true (leb n (length a))))
-
-name_by : (i : Identity) (b o : List ℕ) (p q : Bool)
-    → has_name (cond (p && q) (some i) none) b o ≡ ((p && same_bytes i.bucket b) && (q && same_bytes i.object o))
-unfolding has_name
-name_by i b o true true = refl
-name_by i b o false q = refl
-name_by i b o true false = sym (and-false (same_bytes i.bucket b))
-
-pub name_tests : (a : Identifier) (b o : List ℕ) → Arrays a
-    → has_name (named a) b o ≡ (same_fronts a.bucketlen a.bucket (length b) b && same_fronts a.objectlen a.object (length o) o)
-unfolding named
-name_tests a b o k =
-    name_by (identity a.ulid (take a.bucketlen a.bucket) (take a.objectlen a.object)) b o (leb a.bucketlen 63) (leb a.objectlen 1024)
-    ∙ rw (front_whole a.bucketlen a.bucket b, front_whole a.objectlen a.object o, k.bucket, k.object)
 
 -- ---- a text in an array of zeros
 

@@ -1,39 +1,40 @@
 -- How the code holds an identifier: arrays, with the lengths of bucket and object. The bytes past the lengths are zeros where it was read, and play no part.
 use Rattle.std.specs.Prelude.{ℕ, ◌-◌, ◌≡◌, Bool, true, false, cond, ◌&&◌, List, ◌++◌, leb, length, take, replicate}
 use Rattle.std.proofs.Common.{sym, ap, true≢false, le-leb}
-use Rattle.std.proofs.Math.Option.{Option, none, some}
+use Rattle.std.specs.Prelude.{Option, None, Some}
 use Rattle.std.proofs.Math.Seq.{take-append_seam}
 use Rattle.slices.specs.Bytes.{same_bytes}
 use Rattle.identifier.specs.Identity.{Identity, identity, is_valid, same_identity, Sizes, same_identity_refl, same_identity_true}
 use Rattle.held_identifier.specs.declared.Identifier.{Identifier}
-use Rattle.held_identifier.specs.declared.Reading.{Reading}
+use Rattle.held_identifier.specs.declared.Texts.{Texts}
 
 -- what a struct names: nothing where a length is out of range
 unfoldable pub named : Identifier → Option Identity
 named s =
     cond (leb s.bucketlen 63 && leb s.objectlen 1024)
-    (some (identity s.ulid (take s.bucketlen s.bucket) (take s.objectlen s.object)))
-    none
+    (Some (identity s.ulid (take s.bucketlen s.bucket) (take s.objectlen s.object)))
+    None
+
+-- the same of the texts lent
+abbrev pub texts_of : Option Texts → Option Identity
+texts_of (Some t) = Some (identity t.ulid.now t.bucket.now t.object.now)
+texts_of None = None
 
 -- what is named keeps the rules
 unfoldable pub is_admitted : Option Identity → Bool
-is_admitted none = false
-is_admitted (some i) = is_valid i
-
--- both lengths are in range, and so many bytes at the front of each list are the same
-unfoldable pub same_fronts : ℕ → List ℕ → ℕ → List ℕ → Bool
-same_fronts n a k b = leb n (length a) && leb k (length b) && same_bytes (take n a) (take k b)
+is_admitted None = false
+is_admitted (Some i) = is_valid i
 
 -- both name something, and the same
 unfoldable pub same : Option Identity → Option Identity → Bool
-same none j = false
-same (some i) none = false
-same (some i) (some j) = same_identity i j
+same None j = false
+same (Some i) None = false
+same (Some i) (Some j) = same_identity i j
 
 -- what is named has this bucket and this object
 unfoldable pub has_name : Option Identity → List ℕ → List ℕ → Bool
-has_name none b o = false
-has_name (some i) b o = same_bytes i.bucket b && same_bytes i.object o
+has_name None b o = false
+has_name (Some i) b o = same_bytes i.bucket b && same_bytes i.object o
 
 -- the text with zeros after it, n bytes in all
 unfoldable pub padded : ℕ → List ℕ → List ℕ
@@ -54,13 +55,13 @@ unfoldable pub zeros : Identifier
 zeros = record { ulid = replicate 26 0; bucket = replicate 63 0; bucketlen = 0; object = replicate 1024 0; objectlen = 0 }
 
 -- what a reading answers: an identifier held, or that there is none
-unfoldable pub answered : Option Identity → Reading
-answered none = record { valid = false; id = zeros }
-answered (some i) = record { valid = true; id = held i }
+unfoldable pub answered : Option Identity → Option Identifier
+answered None = None
+answered (Some i) = Some (held i)
 
 -- ---- what is held is what was to be held
 
-pub named_held : (i : Identity) → Sizes i → named (held i) ≡ some i
+pub named_held : (i : Identity) → Sizes i → named (held i) ≡ Some i
 unfolding named held padded
 named_held i s =
     rw (
@@ -75,11 +76,11 @@ named_held i s =
 
 pub same_true : (x y : Option Identity) → same x y ≡ true → x ≡ y
 unfolding same
-same_true none y e = absurd (true≢false (sym e))
-same_true (some i) none e = absurd (true≢false (sym e))
-same_true (some i) (some j) e = ap some (same_identity_true i j e)
+same_true None y e = absurd (true≢false (sym e))
+same_true (Some i) None e = absurd (true≢false (sym e))
+same_true (Some i) (Some j) e = ap Some (same_identity_true i j e)
 
-pub same_refl : (i : Identity) → same (some i) (some i) ≡ true
+pub same_refl : (i : Identity) → same (Some i) (Some i) ≡ true
 unfolding same
 same_refl i = same_identity_refl i
 

@@ -1,3 +1,3 @@
-pub mod Loops
+pub mod Searches
 pub mod Rules
 mod Ranges

@@ -3,7 +3,7 @@ use Prim.Native.Nat.{ℕ, ◌+◌, ◌-◌, ◌<◌, ◌≤◌}
 use mathlib.Core.Path.{◌≡◌, refl, ap, sym, ◌∙◌}
 use mathlib.Core.Bool.{Bool, true, false, cond, not, and-false, true≢false}
 use mathlib.Core.List.{List}
-use mathlib.Core.Option.{none, some}
+use Rattle.std.specs.Prelude.{None, Some}
 use native.Mathlib.Omega.{arith}
 use borrow.Author.Tests.{eq-eqb, ne_eqb, le-leb, lt-leb}
 use lib.Dec.{eqb, leb}
@@ -43,15 +43,15 @@ module _ (s : List ℕ) where
 -- ---- a composite text
 
 module _ (t : List ℕ) where
-  refused : is_composite t ≡ false → none ≡ slash_in t
+  refused : is_composite t ≡ false → None ≡ slash_in t
   unfolding slash_in
   refused e = rw e
 
-  pub split_short : length t ≤ 26 → none ≡ slash_in t
+  pub split_short : length t ≤ 26 → None ≡ slash_in t
   unfolding is_composite
   split_short h = refused (rw (get_or-eq_default t 0 h))
 
-  pub split_colon : (get_or t 26 0 ≡ colon → ⊥) → none ≡ slash_in t
+  pub split_colon : (get_or t 26 0 ≡ colon → ⊥) → None ≡ slash_in t
   unfolding is_composite
   split_colon n = refused (rw (ne_eqb (get_or t 26 0) colon n))
 
@@ -66,7 +66,7 @@ module _ (t : List ℕ) where
     counted =
         omega (arith, bucket_length, length-drop 27 t, before_length slash (drop 27 t))
 
-    pub split_slash : length t ≤ 27 + n → none ≡ slash_in t
+    pub split_slash : length t ≤ 27 + n → None ≡ slash_in t
     split_slash h = refused (go (is_composite t) refl)
       where
         go : (b : Bool) → is_composite t ≡ b → is_composite t ≡ false
@@ -76,7 +76,7 @@ module _ (t : List ℕ) where
     -- the three parts, as the code cuts them, are tested
     pub split_tested : (ok b : Bool) → get_or t 26 0 ≡ colon → ok ≡ b
         → ok ≡ is_valid (identity (take 26 t) (take (27 + n - 27) (drop 27 t)) (take (length t - (27 + n + 1)) (drop (27 + n + 1) t)))
-        → cond b (some (27 + n)) none ≡ slash_in t
+        → cond b (Some (27 + n)) None ≡ slash_in t
     unfolding slash_in is_composite bucket_in object_in
     split_tested ok b x w e =
         let k : 27 + n - 27 ≡ length (before slash (drop 27 t)) = omega (arith, bucket_length) in

@@ -3,14 +3,12 @@ use Rattle.std.specs.Prelude.{ℕ, ◌+◌, ◌-◌, ◌<◌, ◌≤◌, ◌≡�
 use Rattle.std.proofs.Common.{sym, ◌∙◌, add-one, arith, eqb-true, length-append, length-drop, take-append-drop, take_at, drop-drop, drop-cons}
 use Rattle.std.proofs.Math.Path.{ap}
 use mathlib.Core.List.{List, ◌∷◌, ◌++◌, append_assoc}
-use Rattle.std.proofs.Math.Option.{Option, none, some}
+use Rattle.std.specs.Prelude.{Option, None, Some}
 use Rattle.std.proofs.lemmas.List.{get_or_at}
 use Rattle.std.proofs.Math.Seq.{drop-append-add}
 use Rattle.slices.specs.Logic.{both}
 use Rattle.identifier.specs.Texts.{member, before, before_take, before_split, before_append}
 use Rattle.identifier.specs.Identity.{slash, Identity, identity, is_valid, identity_of, sizes, no_slash}
-use Rattle.identifier.specs.declared.Split.{Split}
-use Rattle.identifier.specs.declared.Split.TheVariants.{Slash, Malformed}
 
 -- the byte `:`
 abbrev pub colon : ℕ
@@ -35,16 +33,11 @@ is_composite t = eqb (get_or t 26 0) colon && is_valid (parts_of t)
 
 -- the identifier that a text holds; none where it is no composite text
 unfoldable pub identity_in : List ℕ → Option Identity
-identity_in t = cond (is_composite t) (some (parts_of t)) none
+identity_in t = cond (is_composite t) (Some (parts_of t)) None
 
 -- where the slash between bucket and object stands in a composite text
 unfoldable pub slash_in : List ℕ → Option ℕ
-slash_in t = cond (is_composite t) (some (27 + length (bucket_in t))) none
-
--- what each answer of a split says
-abbrev pub slash_of : Split → Option ℕ
-slash_of (Slash at) = some at
-slash_of Malformed = none
+slash_in t = cond (is_composite t) (Some (27 + length (bucket_in t))) None
 
 -- ---- its length
 
@@ -93,7 +86,7 @@ module _ (u b o : List ℕ) (whole : length u ≡ 26) (plain : member slash b �
 
 -- ---- a text reads as an identifier exactly when it is the text of that identifier
 
-pub text_reads : (i : Identity) → is_valid i ≡ true → identity_in (composite_text i) ≡ some i
+pub text_reads : (i : Identity) → is_valid i ≡ true → identity_in (composite_text i) ≡ Some i
 unfolding identity_of
 text_reads i v = shapes_agree i.ulid i.bucket i.object (sizes i v).ulid (no_slash i v) ∙ rw v
 
@@ -127,11 +120,11 @@ text_joined t c =
     ∙ ap (λ r. take 26 t ++ r) (sym front)
     ∙ take-append-drop 26 t
 
-pub reads_text : (t : List ℕ) (i : Identity) → identity_in t ≡ some i → (is_valid i ≡ true) × (composite_text i ≡ t)
+pub reads_text : (t : List ℕ) (i : Identity) → identity_in t ≡ Some i → (is_valid i ≡ true) × (composite_text i ≡ t)
 unfolding identity_in
 reads_text t i e = go (is_composite t) refl e
   where
-    go : (b : Bool) → is_composite t ≡ b → cond b (some (parts_of t)) none ≡ some i → (is_valid i ≡ true) × (composite_text i ≡ t)
+    go : (b : Bool) → is_composite t ≡ b → cond b (Some (parts_of t)) None ≡ Some i → (is_valid i ≡ true) × (composite_text i ≡ t)
     go true f g =
         let c = composite t f in
         let w : i ≡ parts_of t = cc in
@@ -141,7 +134,7 @@ reads_text t i e = go (is_composite t) refl e
 -- so no two identifiers have the same text
 pub text_unique : (i j : Identity) → is_valid i ≡ true → is_valid j ≡ true → composite_text i ≡ composite_text j → i ≡ j
 text_unique i j v w e =
-    let p : some i ≡ some j = sym (text_reads i v) ∙ ap identity_in e ∙ text_reads j w in
+    let p : Some i ≡ Some j = sym (text_reads i v) ∙ ap identity_in e ∙ text_reads j w in
     cc
 
 -- ---- where a composite text splits, and the three parts of it there
@@ -151,7 +144,7 @@ parts_at t at = identity (take 26 t) (take (at - 27) (drop 27 t)) (drop (at + 1)
 
 pub record SplitAt (t : List ℕ) (at : ℕ) : Type 0 where
   pub valid : is_valid (parts_at t at) ≡ true
-  pub read : identity_in t ≡ some (parts_at t at)
+  pub read : identity_in t ≡ Some (parts_at t at)
   pub after : 27 < at
   pub inside : at + 1 < length t
 
@@ -173,18 +166,18 @@ split_place t at f e =
       inside = omega (arith, c.inside);
     }
 
-pub split_at : (t : List ℕ) (at : ℕ) → slash_in t ≡ some at → SplitAt t at
+pub split_at : (t : List ℕ) (at : ℕ) → slash_in t ≡ Some at → SplitAt t at
 unfolding slash_in
 split_at t at e = go (is_composite t) refl e
   where
-    go : (b : Bool) → is_composite t ≡ b → cond b (some (27 + length (bucket_in t))) none ≡ some at → SplitAt t at
+    go : (b : Bool) → is_composite t ≡ b → cond b (Some (27 + length (bucket_in t))) None ≡ Some at → SplitAt t at
     go true f g = split_place t at f cc
     go false f g = let z : ◌≡◌ {A = ℕ} 0 1 = cc in absurd (omega arith)
 
-pub split_none : (t : List ℕ) → slash_in t ≡ none → identity_in t ≡ none
+pub split_none : (t : List ℕ) → slash_in t ≡ None → identity_in t ≡ None
 unfolding slash_in identity_in
 split_none t e = go (is_composite t) refl e
   where
-    go : (b : Bool) → is_composite t ≡ b → ◌≡◌ {A = Option ℕ} (cond b (some (27 + length (bucket_in t))) none) none → identity_in t ≡ none
+    go : (b : Bool) → is_composite t ≡ b → ◌≡◌ {A = Option ℕ} (cond b (Some (27 + length (bucket_in t))) None) None → identity_in t ≡ None
     go true f g = let z : ◌≡◌ {A = ℕ} 0 1 = cc in absurd (omega arith)
     go false f g = rw f

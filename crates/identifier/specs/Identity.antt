@@ -1,6 +1,6 @@
 -- An identifier (document 01): ULID, bucket and object together, and the rules for each.
 use Rattle.std.specs.Prelude.{ℕ, ◌≤◌, ◌≡◌, Bool, true, false, cond, not, ◌&&◌, List, leb, length}
-use Rattle.std.proofs.Math.Option.{Option, none, some}
+use Rattle.std.specs.Prelude.{Option, None, Some}
 use Rattle.std.proofs.Common.{leb-true}
 use Rattle.std.proofs.lemmas.Bool.{not-true}
 use Rattle.slices.specs.Bytes.{same_bytes, same_bytes_refl, same_bytes_equal}
@@ -39,7 +39,7 @@ is_valid i = is_ulid i.ulid && is_bucket i.bucket && is_object i.object
 
 -- the identifier that three texts make; none where one of them breaks the rules
 unfoldable pub identity_of : List ℕ → List ℕ → List ℕ → Option Identity
-identity_of u b o = cond (is_valid (identity u b o)) (some (identity u b o)) none
+identity_of u b o = cond (is_valid (identity u b o)) (Some (identity u b o)) None
 
 -- two are equal when all three texts are
 unfoldable pub same_identity : Identity → Identity → Bool

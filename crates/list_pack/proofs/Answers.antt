@@ -81,7 +81,7 @@ never_short s bytes h e = by (reading pack_limit s).ending refl e
 
 -- ---- and so the text
 
-no_length : length no_entries ≡ 2048
+pub no_length : length no_entries ≡ 2048
 unfolding no_entries
 no_length = length-replicate 2048 no_entry
 

@@ -1,15 +1,16 @@
 -- What the answers of the code say: document 01's numbers, and the contents at the places told.
 use Rattle.std.specs.Prelude.{ℕ, ◌+◌, Bool, true, false, List, [], ◌∷◌, ◌⊎◌, ◌≡◌, refl, length}
 use Rattle.std.proofs.Common.{true≢false, sym, arith}
-use Rattle.std.proofs.Math.Option.{Option, none, some}
+use Rattle.std.specs.Prelude.{Option, None, Some, Result, Ok, Err}
 use Rattle.slices.specs.declared.Place.{Place}
 use Rattle.refusals.specs.Limit.{pack_limit}
-use Rattle.tlv.specs.Found as tlv
 use Rattle.pack.specs.Reading.{Ending, whole, refused}
+use Rattle.pack.specs.Reading as pack
 use Rattle.identifier.specs.Identity.{identity}
 use Rattle.primary.specs.Answers.{texts_in}
 use Rattle.records.specs.Answers as records
 use Rattle.records.specs.Answers.{IsValue}
+use Rattle.records.specs.declared.Fault as records-fault
 use Rattle.current_version.specs.Current.{Placed, Version, Answer, nothing, found, refused_at, alone, readability, deletes, is_deleted}
 use Rattle.lookup_records.specs.Answers.{role_in, value_in, VersionTold}
 use Rattle.lookup_records.specs.Walk.{placed_from}
@@ -19,19 +20,11 @@ use Rattle.lookup_records.specs.declared.Visited.{Visited}
 use Rattle.ulid_hints.specs.Hints.{ulid_at, AllFirst, Shown}
 use Rattle.lookup.specs.Search.{greatest_below, current_below, first_bound, is_any_deleted, Covers}
 use Rattle.lookup.specs.declared.Version as declared-version
-use Rattle.lookup.specs.declared.Candidate.{Candidate}
-use Rattle.lookup.specs.declared.Candidate.TheVariants as candidate-answer
-use Rattle.lookup.specs.declared.Readable.{Readable}
-use Rattle.lookup.specs.declared.Readable.TheVariants as readable-answer
-use Rattle.lookup.specs.declared.Surveyed.{Surveyed}
-use Rattle.lookup.specs.declared.Surveyed.TheVariants as surveyed-answer
-use Rattle.lookup.specs.declared.Hint.{Hint}
-use Rattle.lookup.specs.declared.Hint.TheVariants as hint-answer
+use Rattle.lookup.specs.declared.Fault.{Fault}
+use Rattle.lookup.specs.declared.Fault.TheVariants as fault-answer
 use Rattle.lookup.specs.declared.Noted.{Noted}
 use Rattle.lookup.specs.declared.Turn.{Turn}
 use Rattle.lookup.specs.declared.Turn.TheVariants as turn-answer
-use Rattle.lookup.specs.declared.Found.{Found}
-use Rattle.lookup.specs.declared.Found.TheVariants as found-answer
 
 -- ---- contents at places of the pack
 
@@ -48,23 +41,37 @@ placed_in s at v = record { start = at; role = role_in s v.role; value = value_i
 abbrev pub version_in : List ℕ → declared-version.Version → Version
 version_in s v = record { identifier = texts_in s v.identifier; delete_flag = v.deleted; value = value_in s v.start v.len; start = v.start }
 
-abbrev pub candidate_in : List ℕ → Candidate → Option Version
-candidate_in s candidate-answer.None = none
-candidate_in s (candidate-answer.Version v) = some (version_in s v)
+abbrev pub candidate_in : List ℕ → Option declared-version.Version → Option Version
+candidate_in s None = None
+candidate_in s (Some v) = Some (version_in s v)
 
 -- ---- answers
 
-abbrev pub ending_of : Readable → Ending
-ending_of readable-answer.Yes = whole
-ending_of (readable-answer.Fault f at) = refused (records.number_of f) at
+abbrev pub fault_number : Fault → ℕ
+fault_number fault-answer.Inadmissible = 20
+fault_number (fault-answer.Pack f) = pack.fault_number f
+fault_number (fault-answer.Unreadable f at) = records.number_of f
 
-abbrev pub found_of : List ℕ → Found → Answer
-found_of s found-answer.Nothing = nothing
-found_of s (found-answer.Current v) = found (version_in s v)
-found_of s found-answer.Inadmissible = alone 20
-found_of s found-answer.TooLong = refused_at 1 0
-found_of s (found-answer.Fault f at) = refused_at (tlv.number_of f) at
-found_of s (found-answer.Unreadable f at) = refused_at (records.number_of f) at
+-- that of a name is at none
+abbrev pub fault_place : Fault → ℕ
+fault_place fault-answer.Inadmissible = 0
+fault_place (fault-answer.Pack f) = pack.fault_place f
+fault_place (fault-answer.Unreadable f at) = at
+
+-- how the reading of records ends: all can be read, or one at this place cannot
+abbrev pub ending_of : {A : Type 0} → Result A (records-fault.Fault × ℕ) → Ending
+ending_of (Ok a) = whole
+ending_of (Err at) = refused (records.number_of at.0) at.1
+
+abbrev pub refusal_of : Fault → Answer
+refusal_of fault-answer.Inadmissible = alone 20
+refusal_of (fault-answer.Pack f) = refused_at (pack.fault_number f) (pack.fault_place f)
+refusal_of (fault-answer.Unreadable f at) = refused_at (records.number_of f) at
+
+abbrev pub found_of : List ℕ → Result (Option declared-version.Version) Fault → Answer
+found_of s (Ok None) = nothing
+found_of s (Ok (Some v)) = found (version_in s v)
+found_of s (Err f) = refusal_of f
 
 -- ---- the places told lie inside the pack
 
@@ -76,11 +83,11 @@ pub record VersionInside (s : List ℕ) (v : declared-version.Version) : Type 0 
   pub value : IsValue s v.start (place_of_value v)
   pub told : VersionTold s (place_of_value v) v.primary v.identifier
 
-pub record CandidateInside (s : List ℕ) (c : Candidate) : Type 0 where
-  pub version : (v : declared-version.Version) → c ≡ candidate-answer.Version v → VersionInside s v
+pub record CandidateInside (s : List ℕ) (c : Option declared-version.Version) : Type 0 where
+  pub version : (v : declared-version.Version) → c ≡ Some v → VersionInside s v
 
-pub record FoundInside (s : List ℕ) (r : Found) : Type 0 where
-  pub version : (v : declared-version.Version) → r ≡ found-answer.Current v → VersionInside s v
+pub record FoundInside (s : List ℕ) (r : Result (Option declared-version.Version) Fault) : Type 0 where
+  pub version : (v : declared-version.Version) → r ≡ Ok (Some v) → VersionInside s v
 
 -- ---- memory lent for the search
 
@@ -118,18 +125,14 @@ scratch_as a b old new e h = rw (← e) h
 -- ---- all records of a checked pack
 
 -- of the versions of this name, deleted or not, the greatest; and whether a deletion has the name
-pub record IsGreatest (s bucket object : List ℕ) (c : Candidate) (deletions : Bool) : Type 0 where
+pub record IsGreatest (s bucket object : List ℕ) (c : Option declared-version.Version) (deletions : Bool) : Type 0 where
   pub is : candidate_in s c ≡ greatest_below (placed_from pack_limit s 0) bucket object first_bound
   pub inside : CandidateInside s c
   pub deletions_is : deletions ≡ is_any_deleted (placed_from pack_limit s 0) bucket object
 
-abbrev pub survey_ending : Surveyed → Ending
-survey_ending (surveyed-answer.Unreadable f at) = refused (records.number_of f) at
-survey_ending (surveyed-answer.Greatest c deletions) = whole
-
-pub record Surveys (s bucket object : List ℕ) (r : Surveyed) : Type 0 where
-  pub ending : survey_ending r ≡ readability (placed_from pack_limit s 0)
-  pub greatest : (c : Candidate) (deletions : Bool) → r ≡ surveyed-answer.Greatest c deletions → IsGreatest s bucket object c deletions
+pub record Surveys (s bucket object : List ℕ) (r : Result (Option declared-version.Version × Bool) (records-fault.Fault × ℕ)) : Type 0 where
+  pub ending : ending_of r ≡ readability (placed_from pack_limit s 0)
+  pub greatest : (c : Option declared-version.Version) (deletions : Bool) → r ≡ Ok (c, deletions) → IsGreatest s bucket object c deletions
 
 -- ---- hints: places of ULIDs of deletions of the name
 
@@ -138,13 +141,13 @@ unfoldable pub is_deleted_at : List ℕ → List ℕ → List ℕ → ℕ → Bo
 is_deleted_at s bucket object place = is_deleted (placed_from pack_limit s 0) (identity (ulid_at s place) bucket object)
 
 -- the hint that a record gives
-pub record IsHint (s bucket object : List ℕ) (r : Role) (h : Hint) : Type 0 where
-  pub told : (place : ℕ) → h ≡ hint-answer.At place → deletes (identity (ulid_at s place) bucket object) (role_in s r) ≡ true
+pub record IsHint (s bucket object : List ℕ) (r : Role) (h : Option ℕ) : Type 0 where
+  pub told : (place : ℕ) → h ≡ Some place → deletes (identity (ulid_at s place) bucket object) (role_in s r) ≡ true
 
 -- one taken in, if there is one
-pub record TakenIn (h : Hint) (n : ℕ) (old : List ℕ) (r : ℕ) (new : List ℕ) : Type 0 where
+pub record TakenIn (h : Option ℕ) (n : ℕ) (old : List ℕ) (r : ℕ) (new : List ℕ) : Type 0 where
   pub long : length new ≡ length old
-  pub keeps : (p : ℕ → Bool) → ((place : ℕ) → h ≡ hint-answer.At place → p place ≡ true) → AllFirst p old n → AllFirst p new r
+  pub keeps : (p : ℕ → Bool) → ((place : ℕ) → h ≡ Some place → p place ≡ true) → AllFirst p old n → AllFirst p new r
 
 -- all deletions: whether one is of the bound, and hints, each of which is true
 pub record Notes (s bucket object bound : List ℕ) (r : Noted) (hints : List ℕ) : Type 0 where
@@ -153,12 +156,12 @@ pub record Notes (s bucket object bound : List ℕ) (r : Noted) (hints : List �
 
 -- a version is left, or none where a hint shows its ULID
 pub record Spares (s hints : List ℕ) (n : ℕ) (offer left : Option Version) : Type 0 where
-  pub is : (left ≡ offer) ⊎ ((left ≡ none) × ((v : Version) → offer ≡ some v → Shown s v.identifier.ulid hints n))
+  pub is : (left ≡ offer) ⊎ ((left ≡ None) × ((v : Version) → offer ≡ Some v → Shown s v.identifier.ulid hints n))
 
 -- ---- a turn of the search
 
 -- the next to look at, below the bound: the current version there, or one that is deleted and than which that is not greater
-pub record IsNext (s bucket object bound : List ℕ) (c : Candidate) : Type 0 where
+pub record IsNext (s bucket object bound : List ℕ) (c : Option declared-version.Version) : Type 0 where
   pub covers : Covers (placed_from pack_limit s 0) bucket object bound (current_below (placed_from pack_limit s 0) bucket object bound) (candidate_in s c)
   pub inside : CandidateInside s c
 
@@ -169,4 +172,4 @@ is_gone (turn-answer.Below c) = true
 
 pub record Turns (s bucket object ulid : List ℕ) (r : Turn) : Type 0 where
   pub gone : is_gone r ≡ is_deleted (placed_from pack_limit s 0) (identity ulid bucket object)
-  pub next : (c : Candidate) → r ≡ turn-answer.Below c → IsNext s bucket object ulid c
+  pub next : (c : Option declared-version.Version) → r ≡ turn-answer.Below c → IsNext s bucket object ulid c

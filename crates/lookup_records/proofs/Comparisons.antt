@@ -2,7 +2,7 @@
 use Prim.Native.Nat.{ℕ}
 use mathlib.Core.Bool.{true, false}
 use mathlib.Core.List.{List}
-use mathlib.Core.Option.{some}
+use Rattle.std.specs.Prelude.{Some}
 use mathlib.Core.Path.{◌≡◌}
 use Rattle.slices.specs.Bytes.{same_bytes}
 use Rattle.slices.specs.Places.{part_at}
@@ -12,11 +12,11 @@ use Rattle.primary.specs.Answers.{texts_in}
 use Rattle.primary.specs.declared.Texts.{Texts}
 
 module _ (s : List ℕ) (t : Texts) (bucket object : List ℕ) where
-  pub other_bucket : same_bytes (part_at s t.bucket) bucket ≡ false → false ≡ has_name (some (texts_in s t)) bucket object
+  pub other_bucket : same_bytes (part_at s t.bucket) bucket ≡ false → false ≡ has_name (Some (texts_in s t)) bucket object
   unfolding has_name
   other_bucket e = rw e
 
-  pub same_bucket : same_bytes (part_at s t.bucket) bucket ≡ true → same_bytes (part_at s t.object) object ≡ has_name (some (texts_in s t)) bucket object
+  pub same_bucket : same_bytes (part_at s t.bucket) bucket ≡ true → same_bytes (part_at s t.object) object ≡ has_name (Some (texts_in s t)) bucket object
   unfolding has_name
   same_bucket e = rw e
 
@@ -25,6 +25,6 @@ module _ (s : List ℕ) (t : Texts) (ulid bucket object : List ℕ) where
   unfolding same_identity
   other_ulid e = rw e
 
-  pub same_ulid : same_bytes (part_at s t.ulid) ulid ≡ true → has_name (some (texts_in s t)) bucket object ≡ same_identity (texts_in s t) (identity ulid bucket object)
+  pub same_ulid : same_bytes (part_at s t.ulid) ulid ≡ true → has_name (Some (texts_in s t)) bucket object ≡ same_identity (texts_in s t) (identity ulid bucket object)
   unfolding same_identity has_name
   same_ulid e = rw e

@@ -3,7 +3,6 @@
 #![tactic(auto)]
 
 ghost use Rattle.std.specs.Prelude.{◌≡◌};
-ghost use Rattle.std.proofs.Math.Option.{some};
 ghost use Rattle.refusals.specs.Limit.{pack_limit};
 ghost use Rattle.slices.specs.Places.{part_at};
 ghost use Rattle.identifier.specs.Identity.{identity, same_identity};
@@ -14,7 +13,7 @@ ghost use Rattle.current_version.specs.Current.{deletes};
 ghost use Rattle.lookup_records.specs.Answers.{role_for, role_but, role_in, RoleInside, Visits};
 
 use primary::Texts;
-use records::{Kind, Reading, Record};
+use records::{Kind, Record};
 use slices::Place;
 
 // What a record is to a lookup.
@@ -63,8 +62,8 @@ fn role_between(pack: &[u8], skipped: u16, tag: u16, value: Place) -> Role
         return Role::Other;
     }
     match records::read(tag, pack, value) {
-        Reading::Record(r) => by_kind(r),
-        Reading::Refused(f) => Role::Unreadable(f),
+        Ok(r) => by_kind(r),
+        Err(f) => Role::Unreadable(f),
     }
 }
 
@@ -90,7 +89,7 @@ pub fn visit(pack: &[u8], at: usize, skipped: u16) -> Visited
 
 // Whether an identifier has this bucket and object.
 pub fn has_name(pack: &[u8], t: Texts, bucket: &[u8], object: &[u8]) -> bool
-    ensures { result ≡ has_name (some (texts_in pack.now t)) bucket.now object.now }
+    ensures { result ≡ has_name (Some (texts_in pack.now t)) bucket.now object.now }
 {
     if !slices::same_bytes(slices::part(pack, t.bucket), bucket) {
         return false;

@@ -6,8 +6,7 @@
 
 ghost use Rattle.std.specs.Prelude.{◌+◌, ◌≤◌, length};
 
-use endian::Number;
-use lookup::{Found, Version};
+use lookup::{Fault, Version};
 use slices::Place;
 use std::io::Read as _;
 
@@ -17,15 +16,8 @@ fn say(rt: &impl Print, text: &[u8]) {
     let _ = rt.write_all(text);
 }
 
-fn say_number(rt: &impl Print, n: usize) {
-    let _ = print!(rt; "{n}");
-}
-
 fn say_refusal(rt: &impl Print, number: u8, place: usize) {
-    say(rt, b"refused ");
-    say_number(rt, number as usize);
-    say(rt, b" at ");
-    say_number(rt, place);
+    let _ = print!(rt; "refused {number} at {place}");
 }
 
 fn say_name(rt: &impl Print, bucket: &[u8], object: &[u8]) {
@@ -43,27 +35,23 @@ fn say_version(rt: &impl Print, pack: &[u8], v: Version) {
         slices::part(pack, texts.bucket),
         slices::part(pack, texts.object),
     );
-    if v.deleted {
-        say(rt, b" delete marker at ");
+    let kind = if v.deleted {
+        "delete marker"
     } else {
-        say(rt, b" version at ");
-    }
-    say_number(rt, v.start);
-    say(rt, b" value ");
-    say_number(rt, v.len);
-    say(rt, b" ");
+        "version"
+    };
+    let start = v.start;
+    let len = v.len;
     let hash = xxh64::xxh64(lookup::value(pack, v));
-    let _ = print!(rt; "{hash:016x}");
+    let _ = print!(rt; " {kind} at {start} value {len} {hash:016x}");
 }
 
 fn say_found(rt: &impl Print, pack: &[u8], bucket: &[u8], object: &[u8]) {
     match lookup::lookup(pack, bucket, object) {
-        Found::Nothing => say(rt, b"nothing"),
-        Found::Current(v) => say_version(rt, pack, v),
-        Found::Inadmissible => say(rt, b"refused 20"),
-        Found::TooLong => say_refusal(rt, 1, 0),
-        Found::Fault(f, at) => say_refusal(rt, tlv::number(f), at),
-        Found::Unreadable(f, at) => say_refusal(rt, records::number(f), at),
+        Ok(None) => say(rt, b"nothing"),
+        Ok(Some(v)) => say_version(rt, pack, v),
+        Err(Fault::Inadmissible) => say(rt, b"refused 20"),
+        Err(f) => say_refusal(rt, u8::from(f), f.place()),
     }
 }
 
@@ -90,7 +78,7 @@ fn field(s: &[u8], at: usize) -> Place
         return none;
     }
     let start = at + 4;
-    let Number::Read(n) = endian::read_big(s, at, 4) else {
+    let Some(n) = endian::read_big(s, at, 4) else {
         return none;
     };
     let len = n as usize;
@@ -137,10 +125,7 @@ fn say_case(rt: &impl Print, s: &[u8]) {
 fn read_number(rt: &impl Input) -> usize {
     let mut bytes = [0u8; 4];
     let _ = rt.reader().read_exact(&mut bytes);
-    let Number::Read(n) = endian::read_big(&bytes, 0, 4) else {
-        return 0;
-    };
-    n as usize
+    u32::from_be_bytes(bytes) as usize
 }
 
 // A case is read into the buffer, if it holds it.
@@ -153,10 +138,9 @@ fn run_case(rt: &(impl Input + Print), buffer: &mut [u8]) {
 }
 
 fn run(rt: &(impl Input + Print), buffer: &mut [u8]) {
-    let mut left = read_number(rt);
-    while 0 < left {
+    let count = read_number(rt);
+    for _ in 0..count {
         run_case(rt, buffer);
-        left -= 1;
     }
 }
 

@@ -1,16 +1,20 @@
 -- The code of the key at a place; and where a code stands among those asked for.
-use Prim.Native.Nat.{ℕ, ◌+◌, ◌*◌, ◌%◌, ◌^◌, ◌≤◌, ◌<◌}
-use mathlib.Core.Bool.{Bool, true, false}
+use Prim.Native.Nat.{ℕ, suc, ◌+◌, ◌*◌, ◌%◌, ◌^◌, ◌≤◌, ◌<◌}
+use mathlib.Core.Bool.{Bool, true, false, cond}
 use mathlib.Core.List.{List, [], ◌∷◌}
-use mathlib.Core.Option.{none, some}
+use Rattle.std.specs.Prelude.{None, Some}
 use mathlib.Core.Path.{◌≡◌, refl}
-use native.Mathlib.Nat.{add-zero, pow-le-pow_right}
-use native.Mathlib.Numerals.{add-one}
+use native.Mathlib.Nat.{pow-le-pow_right}
 use native.Mathlib.Omega.{arith}
 use borrow.Author.Tests.{eq-eqb, ne_eqb, le-leb, lt-leb, leb-true, leb-false}
-use lib.Dec.{leb, lit<}
-use lib.ListN.{length, take, drop, get_or, length-drop}
-use lib.Seq.{drop-cons, drop-drop, length-take-le}
+use lib.Dec.{leb, ltb, eqb, lit<}
+use Rattle.std.proofs.Common.{rules, tests}
+use Rattle.std.proofs.lemmas.Bool.{ltb-false}
+use Rattle.std.proofs.lemmas.List.Recursion.{is_position_or_len}
+use Rattle.std.specs.List.{position_or_len}
+use Rattle.std.specs.Option.{unwrap_or}
+use lib.ListN.{length, take, drop, length-drop}
+use lib.Seq.{drop-drop, length-take-le}
 use Rattle.slices.specs.Bytes.{AllBytes}
 use Rattle.slices.specs.Logic.{absurd_numbers}
 use Rattle.slices.specs.Tables.{agree}
@@ -48,7 +52,7 @@ module _ (t : List ℕ) (h : Head) (e : h ≡ head_of t) where
       let n : length (take h.count (drop h.size t)) ≡ h.count = length-take-le h.count (drop h.size t) (omega (arith, length-drop h.size t)) in
       rw (← e, eq-eqb _ _ k, le-leb _ _ f, le-leb _ _ l, n)
 
-number_unread : (order : List ℕ → ℕ) (s : List ℕ) (at w : ℕ) → w ≤ 8 → number_at order s at w ≡ none → length s < at + w
+number_unread : (order : List ℕ → ℕ) (s : List ℕ) (at w : ℕ) → w ≤ 8 → number_at order s at w ≡ None → length s < at + w
 number_unread order s at w n e = by (leb (at + w) (length s)) refl
   where
     by : (b : Bool) → leb (at + w) (length s) ≡ b → length s < at + w
@@ -62,16 +66,16 @@ module _ (s : List ℕ) (at : ℕ) (h : Head) (e : h ≡ head_of (drop at s)) (k
   text_inside = head_inside at s h e (λ (u : h.kind ≡ unused_kind). omega arith)
 
   module _ (short : h.count ≤ 3) where
-    pub code_read : (n : ℕ) → number_at big s (at + h.size) h.count ≡ some n → 256 ^ h.count + n ≡ code_at (drop at s)
+    pub code_read : (n : ℕ) → number_at big s (at + h.size) h.count ≡ Some n → 256 ^ h.count + n ≡ code_at (drop at s)
     code_read n q =
         let r = number_read big s (at + h.size) h.count n q in
         let i = r.within.inside in
         rw (r.is, ← drop-drop h.size at s) (code_short (drop at s) h e k short (omega (arith, length-drop at s)))
 
-    pub code_unread : number_at big s (at + h.size) h.count ≡ none → other_code ≡ code_at (drop at s)
+    pub code_unread : number_at big s (at + h.size) h.count ≡ None → other_code ≡ code_at (drop at s)
     code_unread q = code_cut (drop at s) h e k (omega (arith, text_inside, number_unread big s (at + h.size) h.count (omega arith) q, length-drop at s))
 
-pub code_fits : (s : List ℕ) (at w n : ℕ) → AllBytes s → w ≤ 3 → number_at big s at w ≡ some n → n < 2 ^ 32
+pub code_fits : (s : List ℕ) (at w n : ℕ) → AllBytes s → w ≤ 3 → number_at big s at w ≡ Some n → n < 2 ^ 32
 code_fits s at w n bytes h q = read_small s at w n bytes (omega arith) (number_read big s at w n q)
 
 -- a 1 before so many bytes
@@ -83,19 +87,28 @@ power_fits n h = pow-le-pow_right {n = 256} (lit< tt) h
 
 -- ---- where a code stands
 
-pub position_here : (keys : List ℕ) (code j : ℕ) → j < length keys → get_or keys j 0 ≡ code → j + position (drop j keys) code ≡ j
-unfolding position
-position_here keys code j h e = rw (drop-cons keys j 0 h, eq-eqb _ _ e, add-zero)
+module _ (code : ℕ) where
+  abbrev pub at_key : ℕ → Bool
+  at_key key = eqb key code
 
-pub position_on : (keys : List ℕ) (code j : ℕ) → j < length keys → (get_or keys j 0 ≡ code → ⊥)
-    → j + position (drop j keys) code ≡ j + 1 + position (drop (j + 1) keys) code
-unfolding position
-position_on keys code j h e = rw (drop-cons keys j 0 h, ne_eqb _ _ e, add-one j) (omega arith)
+  position_is : (keys : List ℕ) → position keys code ≡ position_or_len at_key keys
+  unfolding position
+  position_is = is_position_or_len (λ keys. position keys code) at_key refl (λ x keys. search (rules, tests))
 
-pub position_none : (keys : List ℕ) (code j : ℕ) → length keys ≤ j → j + position (drop j keys) code ≡ j
-unfolding position
-position_none keys code j h = go (drop j keys) (omega (arith, length-drop j keys))
-  where
-    go : (t : List ℕ) → length t ≡ 0 → j + position t code ≡ j
-    go [] e = add-zero j
-    go (x ∷ t) e = absurd (omega arith)
+  position_small : (keys : List ℕ) → position keys code ≤ length keys
+  unfolding position
+  position_small [] = omega arith
+  position_small (k ∷ keys) = by (eqb k code) (position_small keys)
+    where
+      by : (t : Bool) → position keys code ≤ length keys → cond t 0 (suc (position keys code)) ≤ suc (length keys)
+      by true l = omega arith
+      by false l = omega arith
+
+  -- where it stands, or else the number of the keys
+  pub position_told : (keys : List ℕ) (n : ℕ) → n ≡ length keys
+      → unwrap_or (cond (ltb (position_or_len at_key keys) (length keys)) (Some (position_or_len at_key keys)) None) n ≡ position keys code
+  position_told keys n e = rw (← position_is keys, e) (by (ltb (position keys code) (length keys)) refl)
+    where
+      by : (t : Bool) → ltb (position keys code) (length keys) ≡ t → unwrap_or (cond t (Some (position keys code)) None) (length keys) ≡ position keys code
+      by true l = refl
+      by false l = let u = position_small keys in omega (arith, ltb-false _ _ l)

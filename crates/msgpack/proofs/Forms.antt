@@ -2,7 +2,7 @@
 use Prim.Native.Nat.{ℕ, ◌-◌, ◌<◌}
 use mathlib.Core.Bool.{true}
 use mathlib.Core.List.{List}
-use mathlib.Core.Option.{some}
+use Rattle.std.specs.Prelude.{Some}
 use mathlib.Core.Path.{◌≡◌, sym, ap, ◌∙◌}
 use native.Mathlib.Omega.{arith}
 use borrow.Author.Tests.{eq-eqb}
@@ -43,7 +43,7 @@ module _ (kind : ℕ) (s : List ℕ) (h : Head) (e : h ≡ head_of s) where
     counted_form k = count_form k ∙ rw (← e, eq-eqb _ _ k)
 
 -- below 0 each form is as signed as it has to be
-pub negative_told : (b w m : ℕ) (r : Integer) → (integer_read r ≡ some (minus m)) × (integer_short r ≡ eqb w (short_width integer_kind (minus m)))
+pub negative_told : (b w m : ℕ) (r : Integer) → (integer_read (Some r) ≡ Some (minus m)) × (integer_short (Some r) ≡ eqb w (short_width integer_kind (minus m)))
     → IntegerTold b w (minus m) r
 unfolding is_short_integer signed_well
 negative_told b w m r t = record { value = t.0; form = t.1 ∙ sym (and_true _) }

@@ -1,7 +1,7 @@
 -- Heads: the one at the front of a list, by its first byte's format; how large it can be; and the one at a place.
 use Prim.Native.Nat.{ℕ, ◌+◌, ◌-◌, ◌≤◌, ◌<◌}
 use mathlib.Core.List.{List, [], ◌∷◌}
-use mathlib.Core.Option.{none, some}
+use Rattle.std.specs.Prelude.{None, Some}
 use mathlib.Core.Path.{◌≡◌, refl, sym, ap, ◌∙◌}
 use native.Mathlib.Nat.{not-suc-le-zero, add-zero, add_assoc}
 use native.Mathlib.Omega.{arith}
@@ -13,8 +13,7 @@ use Rattle.slices.specs.Bytes.{AllBytes, drop_bytes}
 use Rattle.slices.specs.Logic.{leb_shift}
 use Rattle.endian.specs.Numbers.{little, big}
 use Rattle.endian.specs.Places.{holds, number_at, number_there}
-use Rattle.msgpack.specs.Formats.{integer_kind, text_kind, array_kind, map_kind, format, kind_of, width_of, amount_of, format_of}
-use Rattle.msgpack.specs.declared.Format.{Format}
+use Rattle.msgpack.specs.Formats.{integer_kind, text_kind, array_kind, map_kind, Format, format, kind_of, width_of, amount_of, format_of}
 use Rattle.msgpack.specs.Items.{head, no_head, head_by, head_of, HeadAt}
 use Rattle.msgpack.specs.HeadLaws.{number_read, read_small, Narrow, narrow}
 
@@ -32,14 +31,14 @@ module _ (s : List ℕ) (f : Format) (there : 0 < length s) (e : f ≡ format_of
   format_narrow : get_or s 0 0 < 256 → Narrow (width_of f) (amount_of f)
   format_narrow l = rw e (narrow (get_or s 0 0) l)
 
-  head_read_lem : AllBytes s → (n : ℕ) → number_at big s 1 (width_of f) ≡ some n → HeadAt s (head (kind_of f) (1 + width_of f) (amount_of f + n))
+  head_read_lem : AllBytes s → (n : ℕ) → number_at big s 1 (width_of f) ≡ Some n → HeadAt s (head (kind_of f) (1 + width_of f) (amount_of f + n))
   head_read_lem bytes n q =
       let r = number_read big s 1 (width_of f) n q in
       let w = format_narrow (bytes.below 0) in
       let small = read_small s 1 (width_of f) n bytes w.width_small r in
       record { is = rw (by_format s f there e, q); inside = r.within.inside; small = omega (arith, w.amount_small) }
 
-  head_unread : number_at big s 1 (width_of f) ≡ none → HeadAt s no_head
+  head_unread : number_at big s 1 (width_of f) ≡ None → HeadAt s no_head
   head_unread q = record { is = rw (by_format s f there e, q); inside = omega arith; small = omega arith }
 
 -- ---- at a place
@@ -61,10 +60,10 @@ module _ (s : List ℕ) (at : ℕ) (f : Format) (there : at < length s) (e : f �
   pub narrow_at : AllBytes s → Narrow (width_of f) (amount_of f)
   narrow_at bytes = format_narrow (drop at s) f more first ((drop_bytes at bytes).below 0)
 
-  pub head_read_at : AllBytes s → (n : ℕ) → number_at big s (at + 1) (width_of f) ≡ some n → HeadAt (drop at s) (head (kind_of f) (1 + width_of f) (amount_of f + n))
+  pub head_read_at : AllBytes s → (n : ℕ) → number_at big s (at + 1) (width_of f) ≡ Some n → HeadAt (drop at s) (head (kind_of f) (1 + width_of f) (amount_of f + n))
   head_read_at bytes n q = head_read_lem (drop at s) f more first (drop_bytes at bytes) n (sym (number_from s at 1 (width_of f) (omega arith)) ∙ q)
 
-  pub head_unread_at : number_at big s (at + 1) (width_of f) ≡ none → HeadAt (drop at s) no_head
+  pub head_unread_at : number_at big s (at + 1) (width_of f) ≡ None → HeadAt (drop at s) no_head
   head_unread_at q = head_unread (drop at s) f more first (sym (number_from s at 1 (width_of f) (omega arith)) ∙ q)
 
 pub nothing_at : (s : List ℕ) (at : ℕ) → length s ≤ at → HeadAt (drop at s) no_head

@@ -2,7 +2,7 @@
 use Prim.Native.Nat.{ℕ, ◌+◌, ◌*◌, ◌^◌, ◌≤◌, ◌<◌}
 use mathlib.Core.Bool.{true, cond}
 use mathlib.Core.List.{List, [], ◌∷◌}
-use mathlib.Core.Option.{Option, none, some}
+use Rattle.std.specs.Prelude.{Option, None, Some}
 use mathlib.Core.Path.{◌≡◌, refl}
 use native.Mathlib.Omega.{arith}
 use borrow.Author.Tests.{leb-true, eq-eqb}
@@ -33,11 +33,11 @@ integer_narrow [] bytes k = omega arith
 integer_narrow (b ∷ t) bytes k = by (number_at big (b ∷ t) 1 (width_of (format_of b))) refl k
   where
     by : (r : Option ℕ) → number_at big (b ∷ t) 1 (width_of (format_of b)) ≡ r → (head_by (format_of b) r).kind ≡ integer_kind → (head_by (format_of b) r).count ≤ 8
-    by (some n) e q =
+    by (Some n) e q =
         let f = integer_format b (bytes.below 0) q in
         let w : width_of (format_of b) ≡ 0 = omega arith in
         omega (arith, nothing_read (b ∷ t) (width_of (format_of b)) n w (number_read big (b ∷ t) 1 (width_of (format_of b)) n e))
-    by none e q = omega arith
+    by None e q = omega arith
 
 -- the number of the w bytes at a place is one of those that w bytes hold
 pub part_lt : (s : List ℕ) (at w : ℕ) → AllBytes s → at + w ≤ length s → big (take w (drop at s)) < 256 ^ w

@@ -15,7 +15,10 @@ use Rattle.slices.specs.Logic.{absurd_numbers, clash}
 use Rattle.msgpack.specs.Formats.{map_kind}
 use Rattle.msgpack.specs.Items.{Head, Passage, whole, cut, too_deep, passage_of, head_of, beyond, pass_items, pass_item, pass_over}
 use Rattle.msgpack.specs.Lookup.{ValuePlace, found, missing, broken, if_whole, last_where, last_value}
-use Rattle.msgpack.specs.Pairs.{code_of, code_at, position, PairPassage, whole_pair, cut_pair, deep_pair, if_passed, inside_allowed, pair_at, times_where, times_of, is_repeated, is_whole_passage, keys_asked, Asked, place_told, place_in, PairsRead, Sized, WithValue, NoPairs, is_asked, PairsFrom}
+use Rattle.msgpack.specs.Pairs.{code_of, code_at, position, PairPassage, whole_pair, cut_pair, deep_pair, if_passed, inside_allowed, pair_of, pair_at, times_where, times_of, is_repeated, is_whole_passage, keys_asked, Asked, place_told, place_in, PairsRead, Sized, WithValue, NoPairs, is_asked, PairsFrom}
+use Rattle.std.specs.Prelude.{Err}
+use Rattle.msgpack.specs.declared.Fault.{Fault}
+use Rattle.msgpack.specs.declared.Fault.TheVariants.{Cut, TooDeep}
 use Rattle.msgpack.specs.declared.Values.{Values}
 use Rattle.msgpack.specs.declared.Pairs.{Pairs}
 use Rattle.msgpack.specs.PassingLaws.{map_passed, Beyond, beyond_whole, pair_joined, Deeper, deeper}
@@ -75,11 +78,16 @@ settles s at left h = by (pass_item inside_allowed (drop at s)) refl
     by too_deep p = ap (beyond at) (first _ (left + left) (drop at s) too_deep (omega arith) p)
 
 module _ (s : List ℕ) (at left : ℕ) (more : 0 < left) where
-  pub cut_settles : cut_pair ≡ pair_at s at → beyond at (pass_items (pass_item inside_allowed) (left + left) (drop at s)) ≡ cut
+  cut_settles : cut_pair ≡ pair_at s at → beyond at (pass_items (pass_item inside_allowed) (left + left) (drop at s)) ≡ cut
   cut_settles e = rw (← e) at (settles s at left more)
 
-  pub deep_settles : deep_pair ≡ pair_at s at → beyond at (pass_items (pass_item inside_allowed) (left + left) (drop at s)) ≡ too_deep
+  deep_settles : deep_pair ≡ pair_at s at → beyond at (pass_items (pass_item inside_allowed) (left + left) (drop at s)) ≡ too_deep
   deep_settles e = rw (← e) at (settles s at left more)
+
+-- the fault of either item is the pair's
+pub fault_told : (f : Fault) (next : ℕ → PairPassage) → pair_of (Err f) ≡ if_passed (passage_of (Err f)) next
+fault_told Cut next = refl
+fault_told TooDeep next = refl
 
 -- ---- a pair further
 
@@ -226,11 +234,9 @@ module _ (s keys : List ℕ) (from count : ℕ) where
       repeated = λ j l. rw (m, repeated) (sym (kept.repeated j l ∙ rw (times_none (pass_item inside_allowed) (is_asked keys j) left (drop at s) none) (repeat_told _ _)));
     }
 
-    pub kept_cut : 0 < left → cut_pair ≡ pair_at s at → (r : Pairs) → NoPairs cut r → PairsFrom s keys from count r
-    kept_cut more e r n = no_map cut n refl (kept.passed ∙ cut_settles s at left more e)
-
-    pub kept_deep : 0 < left → deep_pair ≡ pair_at s at → (r : Pairs) → NoPairs too_deep r → PairsFrom s keys from count r
-    kept_deep more e r n = no_map too_deep n refl (kept.passed ∙ deep_settles s at left more e)
+    pub kept_fault : 0 < left → (f : Fault) → pair_of (Err f) ≡ pair_at s at → (r : Pairs) → NoPairs (passage_of (Err f)) r → PairsFrom s keys from count r
+    kept_fault more Cut e r n = no_map cut n refl (kept.passed ∙ cut_settles s at left more e)
+    kept_fault more TooDeep e r n = no_map too_deep n refl (kept.passed ∙ deep_settles s at left more e)
 
 -- ---- with an allowance that passes over more, and a test that is the same for bytes
 

@@ -1,6 +1,6 @@
 -- Laws of the codes of keys: a code tells a short key apart from every other key, and so does where the code stands among those asked for.
 use Rattle.std.specs.Prelude.{ℕ, suc, ◌+◌, ◌^◌, ◌≤◌, ◌<◌, Bool, true, false, cond, List, [], ◌∷◌, ◌≡◌, leb, ltb, eqb, length, drop}
-use Rattle.std.proofs.Math.Option.{Option, none, some}
+use Rattle.std.specs.Prelude.{Option, None, Some}
 use Rattle.std.proofs.Math.Path.{refl}
 use Rattle.std.proofs.Common.{sym, ap, ◌∙◌, pow-suc, arith, eq-eqb, ne_eqb, leb-false, eqb-true, ltb-true, ltb-false, lit<, length-drop, length-take-le}
 use Rattle.std.proofs.Math.Nat.{pow-le-pow_right}
@@ -58,8 +58,8 @@ same_test false false f g = refl
 
 module _ (key : List ℕ) (bytes : AllBytes key) (short : length key ≤ 3) where
   by_content : (t : List ℕ) (r : Option Part) → content_at text_kind t ≡ r → AllBytes t → eqb (code_of_part t r) (code_of key) ≡ content_is key t r
-  by_content t none e b = let s = short_code key bytes short in ne_eqb _ _ (λ (q : other_code ≡ code_of key). omega arith)
-  by_content t (some p) e b = by (leb p.size 3) refl
+  by_content t None e b = let s = short_code key bytes short in ne_eqb _ _ (λ (q : other_code ≡ code_of key). omega arith)
+  by_content t (Some p) e b = by (leb p.size 3) refl
     where
       inside : p.start + p.size ≤ length t
       inside = part_inside text_kind t p e

@@ -1,8 +1,10 @@
 -- What the first byte of an item says, by the specification's table of formats.
 use Rattle.std.specs.Prelude.{ℕ, ◌-◌, cond, List, [], ◌∷◌, ltb, get_or}
-use Rattle.msgpack.specs.declared.Format.{Format}
+use Rattle.msgpack.specs.declared.Kind.{Kind}
+use Rattle.msgpack.specs.declared.Kind.TheVariants as the-kind
+use Rattle.msgpack.specs.declared.Format as declared
 
--- The kinds of items are numbers, so that two can be compared. Those that hold items, arrays and maps, come last.
+-- The kinds of items are numbers here, so that two can be compared. Those that hold items, arrays and maps, come last.
 abbrev pub unused_kind : ℕ
 unused_kind = 0
 
@@ -33,19 +35,39 @@ array_kind = 8
 abbrev pub map_kind : ℕ
 map_kind = 9
 
+abbrev pub kind_index : Kind → ℕ
+kind_index the-kind.Unused = unused_kind
+kind_index the-kind.Nil = nil_kind
+kind_index the-kind.Boolean = boolean_kind
+kind_index the-kind.Integer = integer_kind
+kind_index the-kind.Float = float_kind
+kind_index the-kind.Text = text_kind
+kind_index the-kind.Binary = binary_kind
+kind_index the-kind.Extension = extension_kind
+kind_index the-kind.Array = array_kind
+kind_index the-kind.Map = map_kind
+
 -- What a first byte says: the item's kind; the width of the number that follows the first byte; an amount.
 -- After that number stand as many bytes (of an array items, of a map pairs) as it and the amount together say.
+pub record Format : Type 0 where
+  pub kind : ℕ
+  pub width : ℕ
+  pub amount : ℕ
+
 abbrev pub format : ℕ → ℕ → ℕ → Format
-format kind width amount = (kind, width, amount)
+format kind width amount = record { kind = kind; width = width; amount = amount }
+
+abbrev pub format_read : declared.Format → Format
+format_read f = format (kind_index f.0) f.1 f.2
 
 abbrev pub kind_of : Format → ℕ
-kind_of f = f.0
+kind_of f = f.kind
 
 abbrev pub width_of : Format → ℕ
-width_of f = f.1
+width_of f = f.width
 
 abbrev pub amount_of : Format → ℕ
-amount_of f = f.2
+amount_of f = f.amount
 
 -- the first bytes C0 to DF
 unfoldable pub formats : List Format

@@ -2,7 +2,7 @@
 use Prim.Native.Nat.{ℕ, zero, suc, ◌+◌, ◌-◌, ◌≤◌, ◌<◌}
 use Rattle.std.specs.Prelude.{Bool, cond, ◌&&◌, List, [], ◌∷◌, ◌≡◌, eqb, length, take, drop}
 use Rattle.std.proofs.Math.Bool.{true, false}
-use Rattle.std.proofs.Math.Option.{Option, none, some}
+use Rattle.std.specs.Prelude.{Option, None, Some}
 use Rattle.std.proofs.Math.Path.{refl}
 use Rattle.std.proofs.Common.{sym, ap, ◌∙◌, arith, length-drop}
 use Rattle.std.proofs.Math.Numerals.{unary_clauses}
@@ -42,8 +42,8 @@ head_front (b ∷ t) (suc n) u h within = by (number_at big (b ∷ t) 1 (width_o
   where
     by : (r : Option ℕ) → number_at big (b ∷ t) 1 (width_of (format_of b)) ≡ r → ((head_by (format_of b) r).kind ≡ unused_kind → ⊥)
         → (head_by (format_of b) r).size ≤ suc n → head_by (format_of b) (number_at big (b ∷ take n t) 1 (width_of (format_of b))) ≡ head_by (format_of b) r
-    by (some m) e u h = ap (head_by (format_of b)) (number_front (b ∷ t) (suc n) 1 (width_of (format_of b)) within h ∙ e)
-    by none e u h = absurd (u refl)
+    by (Some m) e u h = ap (head_by (format_of b)) (number_front (b ∷ t) (suc n) 1 (width_of (format_of b)) within h ∙ e)
+    by None e u h = absurd (u refl)
 
 -- ---- the item
 
@@ -104,8 +104,8 @@ module _ (key s : List ℕ) (m : ℕ) (within : m ≤ length s) where
   flat_key e h =
       rw (← e, length-take-le m s within, le-leb _ _ h, le-leb ((head_of s).size + (head_of s).count) (length s) (omega arith)) (by (eqb (head_of s).kind text_kind))
     where
-      by : (t : Bool) → content_is key (take m s) (cond (t && true) (some (part (head_of s).size (head_of s).count)) none)
-          ≡ content_is key s (cond (t && true) (some (part (head_of s).size (head_of s).count)) none)
+      by : (t : Bool) → content_is key (take m s) (cond (t && true) (Some (part (head_of s).size (head_of s).count)) None)
+          ≡ content_is key s (cond (t && true) (Some (part (head_of s).size (head_of s).count)) None)
       by true = rw (part_of_front s m (head_of s).size (head_of s).count within h)
       by false = refl
 

@@ -1,6 +1,6 @@
 -- Laws of heads: what a number that was read says, and how large a first byte lets a head be.
 use Rattle.std.specs.Prelude.{ℕ, ◌^◌, ◌≤◌, ◌<◌, Bool, true, false, cond, List, [], ◌∷◌, ◌≡◌, refl, leb, length, take, drop}
-use Rattle.std.proofs.Math.Option.{Option, none, some}
+use Rattle.std.specs.Prelude.{Option, None, Some}
 use Rattle.std.proofs.Math.Nat.{pow-le-pow_right}
 use Rattle.std.proofs.Common.{lt_of_lt_of_le, arith, leb-true, lit<, length-drop, length-take-le}
 use Rattle.slices.specs.Bytes.{AllBytes, take_bytes, drop_bytes}
@@ -17,11 +17,11 @@ pub record NumberRead (order : List ℕ → ℕ) (s : List ℕ) (at w n : ℕ) :
   pub within : Within (length s) at w
   pub is : n ≡ order (take w (drop at s))
 
-pub number_read : (order : List ℕ → ℕ) (s : List ℕ) (at w n : ℕ) → number_at order s at w ≡ some n → NumberRead order s at w n
+pub number_read : (order : List ℕ → ℕ) (s : List ℕ) (at w n : ℕ) → number_at order s at w ≡ Some n → NumberRead order s at w n
 unfolding number_at
 number_read order s at w n e = by (holds (length s) at w) refl e
   where
-    by : (t : Bool) → holds (length s) at w ≡ t → cond t (some (order (take w (drop at s)))) none ≡ some n → NumberRead order s at w n
+    by : (t : Bool) → holds (length s) at w ≡ t → cond t (Some (order (take w (drop at s)))) None ≡ Some n → NumberRead order s at w n
     by true h q = record { within = holds_within _ _ _ h; is = cc }
     by false h q = absurd_numbers (cc)
 
@@ -52,8 +52,8 @@ head_small [] bytes = omega arith
 head_small (b ∷ t) bytes = by (number_at big (b ∷ t) 1 (width_of (format_of b))) refl
   where
     by : (o : Option ℕ) → number_at big (b ∷ t) 1 (width_of (format_of b)) ≡ o → (head_by (format_of b) o).count < 2 ^ 33
-    by none e = omega arith
-    by (some n) e =
+    by None e = omega arith
+    by (Some n) e =
         let few = narrow b (bytes.below 0) in
         let small = read_small (b ∷ t) 1 (width_of (format_of b)) n bytes few.width_small (number_read big (b ∷ t) 1 (width_of (format_of b)) n e) in
         omega (arith, few.amount_small)

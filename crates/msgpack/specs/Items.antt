@@ -1,13 +1,12 @@
 -- One item at the front of a list of bytes: its head, and how many bytes it takes (document 01: "passed over").
 use Rattle.std.specs.Prelude.{ℕ, zero, suc, ◌+◌, ◌^◌, ◌≤◌, ◌<◌, cond, List, [], ◌∷◌, ◌≡◌, leb, eqb, length, drop}
-use Rattle.std.proofs.Math.Option.{Option, none, some}
+use Rattle.std.specs.Prelude.{Option, None, Some, Result, Ok, Err}
 use Rattle.endian.specs.Numbers.{big}
 use Rattle.endian.specs.Places.{number_at}
-use Rattle.msgpack.specs.Formats.{unused_kind, array_kind, map_kind, kind_of, width_of, amount_of, format_of}
-use Rattle.msgpack.specs.declared.Format.{Format}
+use Rattle.msgpack.specs.Formats.{kind_index, unused_kind, array_kind, map_kind, Format, kind_of, width_of, amount_of, format_of}
 use Rattle.msgpack.specs.declared.Head as declared
-use Rattle.msgpack.specs.declared.Passed.{Passed}
-use Rattle.msgpack.specs.declared.Passed.TheVariants.{Whole, Cut, TooDeep}
+use Rattle.msgpack.specs.declared.Fault.{Fault}
+use Rattle.msgpack.specs.declared.Fault.TheVariants.{Cut, TooDeep}
 
 -- what passing over an item finds; document 01 calls an item whole, cut or too deep
 pub data Passage : Type 0 where
@@ -15,10 +14,15 @@ pub data Passage : Type 0 where
   cut : Passage  -- the bytes end early, or a byte C1 is met
   too_deep : Passage  -- a container stands deeper than the allowance
 
-abbrev pub passage_of : Passed → Passage
-passage_of (Whole n) = whole n
-passage_of Cut = cut
-passage_of TooDeep = too_deep
+abbrev pub passage_of : Result ℕ Fault → Passage
+passage_of (Ok n) = whole n
+passage_of (Err Cut) = cut
+passage_of (Err TooDeep) = too_deep
+
+-- the number of a fault on document 01's refusal sheet
+abbrev pub number_of : Fault → ℕ
+number_of Cut = 9
+number_of TooDeep = 10
 
 -- ---- the head: the first byte, and the number that may follow it
 
@@ -28,7 +32,7 @@ pub record Head : Type 0 where
   pub count : ℕ  -- how many bytes (of an array items, of a map pairs) follow the head
 
 abbrev pub head_read : declared.Head → Head
-head_read h = record { kind = h.kind; size = h.size; count = h.count }
+head_read h = record { kind = kind_index h.kind; size = h.size; count = h.count }
 
 abbrev pub head : ℕ → ℕ → ℕ → Head
 head kind size count = record { kind = kind; size = size; count = count }
@@ -37,8 +41,8 @@ abbrev pub no_head : Head
 no_head = head unused_kind 0 0
 
 abbrev pub head_by : Format → Option ℕ → Head
-head_by f (some n) = head (kind_of f) (1 + width_of f) (amount_of f + n)
-head_by f none = no_head
+head_by f (Some n) = head (kind_of f) (1 + width_of f) (amount_of f + n)
+head_by f None = no_head
 
 unfoldable pub head_of : List ℕ → Head
 head_of [] = no_head

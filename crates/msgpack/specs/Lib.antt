@@ -1,4 +1,5 @@
 pub mod Formats
+pub mod KindLaws
 pub mod Items
 pub mod Readers
 pub mod Short

@@ -1,14 +1,14 @@
 -- The value of a text key in a map: keys are compared as bytes, in every width of text, and of a repeated key the last counts (document 01, "The value").
 use Rattle.std.specs.Prelude.{ℕ, zero, suc, ◌+◌, Bool, true, false, cond, List, eqb, drop}
-use Rattle.std.proofs.Math.Option.{Option, none, some}
+use Rattle.std.specs.Prelude.{Option, None, Some}
 use Rattle.slices.specs.Bytes.{same_bytes}
 use Rattle.msgpack.specs.Formats.{map_kind}
 use Rattle.msgpack.specs.Items.{Passage, whole, cut, too_deep, head_of, pass_item, depth_allowed}
 use Rattle.msgpack.specs.Readers.{Part, content, read_text}
 
 abbrev pub content_is : List ℕ → List ℕ → Option Part → Bool
-content_is key s (some p) = same_bytes (content s p) key
-content_is key s none = false
+content_is key s (Some p) = same_bytes (content s p) key
+content_is key s None = false
 
 -- whether the text `key` stands at the front
 unfoldable pub key_at : List ℕ → List ℕ → Bool
@@ -53,7 +53,7 @@ last_value key s =
 abbrev pub at_place : {A I : Type 0} → Option A → (I → Option A) → Under I → Option A
 at_place absent read (found i) = read i
 at_place absent read missing = absent
-at_place absent read broken = none
+at_place absent read broken = None
 
 -- a key that is there counts as there whatever its value, nil included
 abbrev pub is_found : {I : Type 0} → Under I → Bool
@@ -63,10 +63,10 @@ is_found broken = false
 
 -- `next` of what is there
 abbrev pub if_there : {A B : Type 0} → Option A → (A → Option B) → Option B
-if_there (some a) next = next a
-if_there none next = none
+if_there (Some a) next = next a
+if_there None next = None
 
 -- what f makes of it
 abbrev pub over : {A B : Type 0} → (A → B) → Option A → Option B
-over f (some a) = some (f a)
-over f none = none
+over f (Some a) = Some (f a)
+over f None = None

@@ -1,6 +1,6 @@
 -- The pairs of a map: the one at a place; and what one pass over a whole map tells of a few wanted keys, which are given by their codes.
 use Rattle.std.specs.Prelude.{ℕ, zero, suc, ◌+◌, ◌^◌, ◌≤◌, ◌<◌, Bool, true, false, cond, ◌&&◌, ◌||◌, List, [], ◌∷◌, ◌≡◌, leb, ltb, eqb, length, drop, get_or}
-use Rattle.std.proofs.Math.Option.{Option, none, some}
+use Rattle.std.specs.Prelude.{Option, None, Some, Result, Ok, Err}
 use Rattle.slices.specs.Bytes.{AllBytes}
 use Rattle.endian.specs.Numbers.{big}
 use Rattle.msgpack.specs.Formats.{map_kind}
@@ -8,7 +8,8 @@ use Rattle.msgpack.specs.Items.{Passage, whole, cut, too_deep, passage_of, head_
 use Rattle.msgpack.specs.Readers.{Part, content, read_text}
 use Rattle.msgpack.specs.Lookup.{ValuePlace, found, missing, broken, if_whole, key_at, last_where, last_value}
 use Rattle.msgpack.specs.declared.Pair.{Pair}
-use Rattle.msgpack.specs.declared.Pair.TheVariants as pair-answer
+use Rattle.msgpack.specs.declared.Fault.{Fault}
+use Rattle.msgpack.specs.declared.Fault.TheVariants.{Cut, TooDeep}
 use Rattle.msgpack.specs.declared.Values.{Values}
 use Rattle.msgpack.specs.declared.Pairs.{Pairs}
 
@@ -23,8 +24,8 @@ abbrev pub other_code : ℕ
 other_code = 0xffffffff
 
 abbrev pub code_of_part : List ℕ → Option Part → ℕ
-code_of_part s (some p) = cond (leb p.size 3) (code_of (content s p)) other_code
-code_of_part s none = other_code
+code_of_part s (Some p) = cond (leb p.size 3) (code_of (content s p)) other_code
+code_of_part s None = other_code
 
 -- the code of the key at the front
 unfoldable pub code_at : List ℕ → ℕ
@@ -43,10 +44,10 @@ pub data PairPassage : Type 0 where
   cut_pair : PairPassage
   deep_pair : PairPassage
 
-abbrev pub pair_of : Pair → PairPassage
-pair_of (pair-answer.Whole code value next) = whole_pair code value next
-pair_of pair-answer.Cut = cut_pair
-pair_of pair-answer.TooDeep = deep_pair
+abbrev pub pair_of : Result Pair Fault → PairPassage
+pair_of (Ok p) = whole_pair p.code p.value p.next
+pair_of (Err Cut) = cut_pair
+pair_of (Err TooDeep) = deep_pair
 
 abbrev pub if_passed : Passage → (ℕ → PairPassage) → PairPassage
 if_passed (whole n) next = next n

@@ -1,12 +1,14 @@
 -- How passing over goes on: by the head of an item at a place, and item by item through a container.
 use Prim.Native.Nat.{ℕ, zero, suc, ◌+◌, ◌-◌, ◌≤◌, ◌<◌}
-use Rattle.std.specs.Prelude.{List, ◌≡◌, length, drop}
+use Rattle.std.specs.Prelude.{List, ◌≡◌, length, drop, Err}
 use Rattle.std.proofs.Math.Path.{refl}
 use Rattle.std.proofs.Common.{ap, ◌∙◌, not-suc-le-zero, add_assoc, sub-one, arith, length-drop, drop-drop}
 use Rattle.slices.specs.Logic.{absurd_numbers}
 use Rattle.msgpack.specs.Formats.{unused_kind, array_kind}
-use Rattle.msgpack.specs.Items.{Head, Passage, whole, cut, too_deep, head_of, items_of, beyond, and_then, pass_items, pass_item}
-use Rattle.msgpack.specs.PassingLaws.{head_within, within_container, beyond_whole, bounded}
+use Rattle.msgpack.specs.Items.{Head, Passage, whole, cut, too_deep, passage_of, head_of, items_of, beyond, and_then, pass_items, pass_item}
+use Rattle.msgpack.specs.PassingLaws.{head_within, within_container, beyond_whole, beyond_deep, bounded}
+use Rattle.msgpack.specs.declared.Fault.{Fault}
+use Rattle.msgpack.specs.declared.Fault.TheVariants.{Cut, TooDeep}
 
 beyond_beyond : (a b : ℕ) (r : Passage) → beyond a (beyond b r) ≡ beyond (a + b) r
 beyond_beyond a b (whole n) = rw add_assoc
@@ -17,6 +19,20 @@ pub beyond_cut : (k : ℕ) (r : Passage) → beyond k r ≡ cut → r ≡ cut
 beyond_cut k (whole m) h = absurd_numbers (cc)
 beyond_cut k cut h = refl
 beyond_cut k too_deep h = absurd_numbers (cc)
+
+-- ---- a fault is passed up
+
+pub beyond_fault : (k : ℕ) (f : Fault) → beyond k (passage_of (Err f)) ≡ passage_of (Err f)
+beyond_fault k Cut = refl
+beyond_fault k TooDeep = refl
+
+pub fault_behind : (k : ℕ) (r : Passage) (f : Fault) → beyond k r ≡ passage_of (Err f) → r ≡ passage_of (Err f)
+fault_behind k r Cut e = beyond_cut k r e
+fault_behind k r TooDeep e = beyond_deep k r e
+
+pub fault_first : (f : Fault) (next : ℕ → Passage) → and_then (passage_of (Err f)) next ≡ passage_of (Err f)
+fault_first Cut next = refl
+fault_first TooDeep next = refl
 
 pub passed_from : (from at : ℕ) (r : Passage) → beyond from r ≡ whole at → r ≡ whole (at - from)
 passed_from from at r e =

@@ -3,7 +3,7 @@
 use Prim.Native.Nat.{ℕ, zero, suc, ◌+◌, ◌≤◌, ◌<◌}
 use Rattle.std.specs.Prelude.{Bool, List, [], ◌∷◌, eqb, length, drop}
 use Rattle.std.proofs.Math.Bool.{true, false, cond}
-use Rattle.std.proofs.Math.Option.{Option, none, some}
+use Rattle.std.specs.Prelude.{Option, None, Some}
 use Rattle.std.proofs.Math.Path.{◌≡◌, refl}
 use Rattle.std.proofs.Common.{sym, ap, ◌∙◌, arith, length-drop, drop-drop}
 use borrow.Author.Tests.{le-leb, lt-leb, eq-eqb, ne_eqb, leb-true, leb-false, eqb-false}
@@ -27,8 +27,8 @@ head_within [] = record { inside = omega arith; begun = λ some_kind. absurd (so
 head_within (b ∷ t) = by (number_at big (b ∷ t) 1 (width_of (format_of b))) refl
   where
     by : (r : Option ℕ) → number_at big (b ∷ t) 1 (width_of (format_of b)) ≡ r → HeadWithin (b ∷ t) (head_by (format_of b) r)
-    by (some n) e = record { inside = (number_read big (b ∷ t) 1 (width_of (format_of b)) n e).within.inside; begun = λ some_kind. omega arith }
-    by none e = record { inside = omega arith; begun = λ some_kind. absurd (some_kind refl) }
+    by (Some n) e = record { inside = (number_read big (b ∷ t) 1 (width_of (format_of b)) n e).within.inside; begun = λ some_kind. omega arith }
+    by None e = record { inside = omega arith; begun = λ some_kind. absurd (some_kind refl) }
 
 -- ---- what the head says of the answer
 

@@ -1,7 +1,7 @@
 -- THE SHORT FORM (request 8), over the table of formats: a first byte, and the argument that it and what follows it say. Of an item that holds none, and
 -- of the head of one that does.
 use Rattle.std.specs.Prelude.{ℕ, ◌^◌, Bool, true, false, cond, not, ◌&&◌, ◌||◌, List, [], ◌∷◌, ◌≡◌, refl, ltb, leb, eqb, get_or}
-use Rattle.std.proofs.Math.Option.{Option, none, some}
+use Rattle.std.specs.Prelude.{Option, None, Some}
 use Rattle.endian.specs.Numbers.{little, big}
 use Rattle.endian.specs.Places.{holds, number_at}
 use Rattle.msgpack.specs.Formats.{integer_kind, text_kind, binary_kind, extension_kind, array_kind, kind_of, width_of, amount_of, formats, format_of}
@@ -60,23 +60,23 @@ is_short_integer b width i = eqb width (short_width integer_kind i) && signed_we
 
 -- the form at the front is the short one of the argument that was read there; it is not, where none was
 abbrev pub short_front : List ℕ → Option Int → Bool
-short_front s (some i) = is_short (get_or s 0 0) i
-short_front s none = false
+short_front s (Some i) = is_short (get_or s 0 0) i
+short_front s None = false
 
 -- the argument of a text or bytes: the length of the content
 abbrev pub length_read : Option Part → Option Int
-length_read (some p) = some (plus p.size)
-length_read none = none
+length_read (Some p) = Some (plus p.size)
+length_read None = None
 
 -- of an array or map: its items or pairs
 abbrev pub count_read : Option Counted → Option Int
-count_read (some c) = some (plus c.count)
-count_read none = none
+count_read (Some c) = Some (plus c.count)
+count_read None = None
 
 -- an answer that tells this integer, in the form with this first byte and w bytes behind it
 pub record IntegerTold (b w : ℕ) (i : Int) (r : Integer) : Type 0 where
-  pub value : integer_read r ≡ some i
-  pub form : integer_short r ≡ is_short_integer b w i
+  pub value : integer_read (Some r) ≡ Some i
+  pub form : integer_short (Some r) ≡ is_short_integer b w i
 
 -- ---- examples: both sides of each border, as first bytes and arguments
 

@@ -1,7 +1,7 @@
 -- Laws of the short form: what the head at the front says of its first byte's format, and so of its form.
 use Rattle.std.specs.Prelude.{ℕ, ◌+◌, ◌-◌, ◌<◌, Bool, true, cond, ◌&&◌, List, [], ◌∷◌, ◌≡◌, refl, eqb, get_or}
 use Rattle.std.proofs.Math.Bool.{false}
-use Rattle.std.proofs.Math.Option.{Option, none, some}
+use Rattle.std.specs.Prelude.{Option, None, Some}
 use Rattle.std.proofs.Common.{sym, ◌∙◌, arith}
 use borrow.Author.Tests.{eq-eqb, ne_eqb, eqb-true}
 use Rattle.slices.specs.Bytes.{AllBytes}
@@ -44,7 +44,7 @@ unfolding head_of argument_width
 head_format [] bytes used = absurd (used refl)
 head_format (b ∷ t) bytes used = by (number_at big (b ∷ t) 1 (width_of (format_of b))) refl used
   where
-    said : (n : ℕ) → number_at big (b ∷ t) 1 (width_of (format_of b)) ≡ some n
+    said : (n : ℕ) → number_at big (b ∷ t) 1 (width_of (format_of b)) ≡ Some n
         → cond (eqb (kind_of (format_of b)) integer_kind) (amount_of (format_of b)) (width_of (format_of b))
         ≡ cond (eqb (kind_of (format_of b)) integer_kind) (amount_of (format_of b) + n) (1 + width_of (format_of b) - 1)
     said n e = go (eqb (kind_of (format_of b)) integer_kind) refl
@@ -57,8 +57,8 @@ head_format (b ∷ t) bytes used = by (number_at big (b ∷ t) 1 (width_of (form
         go false i = omega arith
 
     by : (r : Option ℕ) → number_at big (b ∷ t) 1 (width_of (format_of b)) ≡ r → ((head_by (format_of b) r).kind ≡ unused_kind → ⊥) → HeadFormat (b ∷ t)
-    by none e u = absurd (u refl)
-    by (some n) e u = record { kind = rw e; width = rw e (said n e) }
+    by None e u = absurd (u refl)
+    by (Some n) e u = record { kind = rw e; width = rw e (said n e) }
 
 -- ---- the form at the front, from its head
 

@@ -2,7 +2,7 @@
 -- said over a view, once; bytes have a view here, and values one in crate msgpack_model.
 use Rattle.std.specs.Prelude.{ℕ, zero, suc, ◌+◌, Bool, true, false, cond, ◌&&◌, ◌||◌, ◌≡◌, ltb, leb, eqb, length, drop}
 use mathlib.Core.List.{List, [], ◌∷◌}
-use Rattle.std.proofs.Math.Option.{Option, none, some}
+use Rattle.std.specs.Prelude.{Option, None, Some}
 use Rattle.std.proofs.Math.Path.{refl}
 use Rattle.std.proofs.Common.{arith, ne_eqb, eqb-true}
 use Rattle.slices.specs.Logic.{absurd_numbers, neither_so}
@@ -41,8 +41,8 @@ items_from zero s = []
 items_from (suc n) s = s ∷ items_from n (drop (size_of (pass_over s)) s)
 
 abbrev pub items_by : List ℕ → Option Counted → Option (List (List ℕ))
-items_by s (some c) = some (items_from c.count (drop c.size s))
-items_by s none = none
+items_by s (Some c) = Some (items_from c.count (drop c.size s))
+items_by s None = None
 
 -- what stands at a place of s
 abbrev pub front_of : List ℕ → Under ℕ → Under (List ℕ)
@@ -68,7 +68,7 @@ read_front absent read s missing = refl
 read_front absent read s broken = refl
 
 -- a text has no keys
-pub text_times : (key s t : List ℕ) → some t ≡ text_at s → times_of key s ≡ 0
+pub text_times : (key s t : List ℕ) → Some t ≡ text_at s → times_of key s ≡ 0
 unfolding text_at content_at is_whole times_of
 text_times key s t e = by (eqb (head_of s).kind text_kind) refl e
   where
@@ -80,7 +80,7 @@ text_times key s t e = by (eqb (head_of s).kind text_kind) refl e
     count too_deep m = refl
 
     by : (b : Bool) → eqb (head_of s).kind text_kind ≡ b
-        → some t ≡ content_of_part s (cond (b && leb ((head_of s).size + (head_of s).count) (length s)) (some (part (head_of s).size (head_of s).count)) none)
+        → Some t ≡ content_of_part s (cond (b && leb ((head_of s).size + (head_of s).count) (length s)) (Some (part (head_of s).size (head_of s).count)) None)
         → times_of key s ≡ 0
     by true k q = count (pass_over s) (ne_eqb (head_of s).kind map_kind (λ (m : (head_of s).kind ≡ map_kind). omega (arith, eqb-true (head_of s).kind text_kind k)))
     by false k q = absurd_numbers (cc)
@@ -89,8 +89,8 @@ text_times key s t e = by (eqb (head_of s).kind text_kind) refl e
 
 -- both are there and related, or neither is
 pub data Both {A B : Type 0} (R : A → B → Type 0) : Option A → Option B → Type 0 where
-  both : {a : A} {b : B} → R a b → Both R (some a) (some b)
-  neither : Both R none none
+  both : {a : A} {b : B} → R a b → Both R (Some a) (Some b)
+  neither : Both R None None
 
 pub data Each {A B : Type 0} (R : A → B → Type 0) : List A → List B → Type 0 where
   no_more : Each R [] []

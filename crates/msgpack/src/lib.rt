@@ -2,36 +2,27 @@
 // looked up in a map by a text key.
 #![tactic(auto)]
 
-ghost use Rattle.std.proofs.Math.Option.{some};
 ghost use Rattle.std.specs.Prelude.{◌≡◌, ◌-◌, ◌≤◌, ◌<◌, ◌^◌, eqb, length, drop, get_or};
-ghost use Rattle.msgpack.specs.Formats.{integer_kind, array_kind, format_of};
-ghost use Rattle.msgpack.specs.Items.{head, head_read, HeadAt, items_of, pass_items, pass_item, pass_over, passage_of};
-ghost use Rattle.msgpack.specs.Readers.{is_whole, content_at, read_text, read_binary, part_of, part_short, read_boolean, boolean_of, plus, minus, twos_complement, integer_of, read_integer, integer_read, integer_short, count_at, read_array, read_map, counted_of, counted_short};
+ghost use Rattle.msgpack.specs.Formats.{kind_index, integer_kind, array_kind, format_read, format_of};
+ghost use Rattle.msgpack.specs.Items.{head, head_read, HeadAt, items_of, pass_items, pass_item, number_of, pass_over, passage_of};
+ghost use Rattle.msgpack.specs.Readers.{is_whole, content_at, read_text, read_binary, part_of, part_short, read_boolean, plus, minus, twos_complement, integer_of, read_integer, integer_read, integer_short, count_at, read_array, read_map, counted_of, counted_short};
 ghost use Rattle.msgpack.specs.Short.{fixed_holds, short_width, is_signed, short_front, length_read, count_read, IntegerTold};
 ghost use Rattle.msgpack.specs.Pairs.{code_at, position, pair_of, pair_at, Sized, WithValue, NoPairs, PairsFrom, PairsRead};
 
-use endian::Number;
-
-// The kinds of items, as numbers that can be compared.
-pub const UNUSED: usize = 0;
-
-pub const NIL: usize = 1;
-
-pub const BOOLEAN: usize = 2;
-
-pub const INTEGER: usize = 3;
-
-pub const FLOAT: usize = 4;
-
-pub const TEXT: usize = 5;
-
-pub const BINARY: usize = 6;
-
-pub const EXTENSION: usize = 7;
-
-pub const ARRAY: usize = 8;
-
-pub const MAP: usize = 9;
+// The kinds of items. Unused is that of the first byte C1.
+#[derive(Clone, Copy, PartialEq, Eq)]
+pub enum Kind {
+    Unused,
+    Nil,
+    Boolean,
+    Integer,
+    Float,
+    Text,
+    Binary,
+    Extension,
+    Array,
+    Map,
+}
 
 // How deep containers may stand in containers.
 pub const ALLOWANCE: usize = 16;
@@ -40,58 +31,58 @@ pub const ALLOWANCE: usize = 16;
 // After that number stand as many bytes (of an array items, of a map pairs) as it and the amount
 // together say.
 #[derive(Clone, Copy)]
-struct Format(usize, usize, usize);
+struct Format(Kind, usize, usize);
 
 // What a first byte from C0 to DF says.
 fn sized_format(b: u8) -> Format
     requires { (0xc0 ≤ b) × (b < 0xe0) }
-    ensures { result ≡ format_of b }
+    ensures { format_read result ≡ format_of b }
 {
     match b {
-        0xc0 => Format(NIL, 0, 0),
-        0xc1 => Format(UNUSED, 0, 0),
-        0xc2 => Format(BOOLEAN, 0, 0),
-        0xc3 => Format(BOOLEAN, 0, 0),
-        0xc4 => Format(BINARY, 1, 0),
-        0xc5 => Format(BINARY, 2, 0),
-        0xc6 => Format(BINARY, 4, 0),
-        0xc7 => Format(EXTENSION, 1, 1),
-        0xc8 => Format(EXTENSION, 2, 1),
-        0xc9 => Format(EXTENSION, 4, 1),
-        0xca => Format(FLOAT, 0, 4),
-        0xcb => Format(FLOAT, 0, 8),
-        0xcc | 0xd0 => Format(INTEGER, 0, 1),
-        0xcd | 0xd1 => Format(INTEGER, 0, 2),
-        0xce | 0xd2 => Format(INTEGER, 0, 4),
-        0xcf | 0xd3 => Format(INTEGER, 0, 8),
-        0xd4 => Format(EXTENSION, 0, 2),
-        0xd5 => Format(EXTENSION, 0, 3),
-        0xd6 => Format(EXTENSION, 0, 5),
-        0xd7 => Format(EXTENSION, 0, 9),
-        0xd8 => Format(EXTENSION, 0, 17),
-        0xd9 => Format(TEXT, 1, 0),
-        0xda => Format(TEXT, 2, 0),
-        0xdb => Format(TEXT, 4, 0),
-        0xdc => Format(ARRAY, 2, 0),
-        0xdd => Format(ARRAY, 4, 0),
-        0xde => Format(MAP, 2, 0),
-        _ => Format(MAP, 4, 0),
+        0xc0 => Format(Kind::Nil, 0, 0),
+        0xc1 => Format(Kind::Unused, 0, 0),
+        0xc2 => Format(Kind::Boolean, 0, 0),
+        0xc3 => Format(Kind::Boolean, 0, 0),
+        0xc4 => Format(Kind::Binary, 1, 0),
+        0xc5 => Format(Kind::Binary, 2, 0),
+        0xc6 => Format(Kind::Binary, 4, 0),
+        0xc7 => Format(Kind::Extension, 1, 1),
+        0xc8 => Format(Kind::Extension, 2, 1),
+        0xc9 => Format(Kind::Extension, 4, 1),
+        0xca => Format(Kind::Float, 0, 4),
+        0xcb => Format(Kind::Float, 0, 8),
+        0xcc | 0xd0 => Format(Kind::Integer, 0, 1),
+        0xcd | 0xd1 => Format(Kind::Integer, 0, 2),
+        0xce | 0xd2 => Format(Kind::Integer, 0, 4),
+        0xcf | 0xd3 => Format(Kind::Integer, 0, 8),
+        0xd4 => Format(Kind::Extension, 0, 2),
+        0xd5 => Format(Kind::Extension, 0, 3),
+        0xd6 => Format(Kind::Extension, 0, 5),
+        0xd7 => Format(Kind::Extension, 0, 9),
+        0xd8 => Format(Kind::Extension, 0, 17),
+        0xd9 => Format(Kind::Text, 1, 0),
+        0xda => Format(Kind::Text, 2, 0),
+        0xdb => Format(Kind::Text, 4, 0),
+        0xdc => Format(Kind::Array, 2, 0),
+        0xdd => Format(Kind::Array, 4, 0),
+        0xde => Format(Kind::Map, 2, 0),
+        _ => Format(Kind::Map, 4, 0),
     }
 }
 
 // The first byte of an item, and the number that may follow it: the item's kind, the head's own
-// length, and how many bytes (of an array items, of a map pairs) follow the head. The kind is UNUSED
+// length, and how many bytes (of an array items, of a map pairs) follow the head. The kind is Unused
 // where no item can begin so.
 #[derive(Clone, Copy)]
 pub struct Head {
-    pub kind: usize,
+    pub kind: Kind,
     pub size: usize,
     pub count: usize,
 }
 
 // No item begins so.
 const NO_HEAD: Head = Head {
-    kind: UNUSED,
+    kind: Kind::Unused,
     size: 0,
     count: 0,
 };
@@ -106,18 +97,18 @@ fn sized_head(s: &[u8], at: usize, b: u8) -> Head
     let width = f.1;
     let amount = f.2;
     match endian::read_big(s, at + 1, width) {
-        Number::Read(n) => Head {
+        Some(n) => Head {
             kind,
             size: 1 + width,
             count: amount + n as usize,
         },
-        Number::Missing => NO_HEAD,
+        None => NO_HEAD,
     }
 }
 
 // A head of one byte.
-fn short_head(kind: usize, count: usize) -> Head
-    ensures { head_read result ≡ head kind 1 count }
+fn short_head(kind: Kind, count: usize) -> Head
+    ensures { head_read result ≡ head (kind_index kind) 1 count }
 {
     Head {
         kind,
@@ -136,102 +127,100 @@ pub fn head_at(s: &[u8], at: usize) -> Head
     let b = s[at];
     let n = b as usize;
     if n < 0x80 {
-        return short_head(INTEGER, 0);
+        return short_head(Kind::Integer, 0);
     }
     if n < 0x90 {
-        return short_head(MAP, n - 0x80);
+        return short_head(Kind::Map, n - 0x80);
     }
     if n < 0xa0 {
-        return short_head(ARRAY, n - 0x90);
+        return short_head(Kind::Array, n - 0x90);
     }
     if n < 0xc0 {
-        return short_head(TEXT, n - 0xa0);
+        return short_head(Kind::Text, n - 0xa0);
     }
     if n < 0xe0 {
         return sized_head(s, at, b);
     }
-    short_head(INTEGER, 0)
+    short_head(Kind::Integer, 0)
 }
 
-// How many items a container holds.
-fn items_of(kind: usize, count: usize) -> usize
-    requires { count < 2 ^ 33 }
-    ensures { result ≡ items_of kind count }
+// How many items a container holds whose head counts so many.
+pub fn items_of(kind: Kind, count: usize) -> usize
+    ensures { count < 2 ^ 33 → result ≡ items_of (kind_index kind) count }
 {
-    if kind == MAP { count + count } else { count }
+    if kind == Kind::Map {
+        count.wrapping_add(count)
+    } else {
+        count
+    }
 }
 
-// What passing over an item finds.
+// Why an item cannot be passed over.
 #[derive(Clone, Copy)]
-pub enum Passed {
-    // A whole item, of so many bytes.
-    Whole(usize),
+pub enum Fault {
     // The slice ends early, or a byte C1 stands where an item should begin.
     Cut,
     // A container stands at depth 17, and its count has been read.
     TooDeep,
 }
 
+// By document 01's refusal sheet.
+impl From<Fault> for u8 {
+    ghost from_gives = { λ f n. n ≡ number_of f };
+
+    fn from(f: Fault) -> u8 {
+        match f {
+            Fault::Cut => 9,
+            Fault::TooDeep => 10,
+        }
+    }
+}
+
 // Passes over the array or map at a place, whose head is h.
 #[cycle(pass_container_pass_item_pass_items)]
-fn pass_container(s: &[u8], at: usize, h: Head, allowance: usize) -> Passed
-    requires { HeadAt (drop at s.now) (head_read h) × (array_kind ≤ h.kind) }
+fn pass_container(s: &[u8], at: usize, h: Head, allowance: usize) -> Result<usize, Fault>
+    requires { HeadAt (drop at s.now) (head_read h) × (array_kind ≤ kind_index h.kind) }
     ensures { passage_of result ≡ pass_item allowance (drop at s.now) }
 {
     if allowance == 0 {
-        return Passed::TooDeep;
+        return Err(Fault::TooDeep);
     }
     let size = h.size;
-    match pass_items(s, at + size, items_of(h.kind, h.count), allowance - 1) {
-        Passed::Whole(n) => Passed::Whole(size + n),
-        Passed::Cut => Passed::Cut,
-        Passed::TooDeep => Passed::TooDeep,
-    }
+    let n = pass_items(s, at + size, items_of(h.kind, h.count), allowance - 1)?;
+    Ok(size + n)
 }
 
 // Passes over the item at a place, whose head is h and in which containers may stand so deep.
 #[cycle(pass_container_pass_item_pass_items)]
-fn pass_item(s: &[u8], at: usize, h: Head, allowance: usize) -> Passed
+fn pass_item(s: &[u8], at: usize, h: Head, allowance: usize) -> Result<usize, Fault>
     requires { HeadAt (drop at s.now) (head_read h) }
     ensures { passage_of result ≡ pass_item allowance (drop at s.now) }
 {
-    let kind = h.kind;
     let length = h.size + h.count;
-    if ARRAY <= kind {
-        return pass_container(s, at, h, allowance);
-    }
-    if kind == UNUSED {
-        return Passed::Cut;
-    }
-    if length <= s.len() - at {
-        Passed::Whole(length)
-    } else {
-        Passed::Cut
+    match h.kind {
+        Kind::Unused => Err(Fault::Cut),
+        Kind::Array | Kind::Map => pass_container(s, at, h, allowance),
+        _ if length <= s.len() - at => Ok(length),
+        _ => Err(Fault::Cut),
     }
 }
 
-// Passes over count items from a place on; stops at the first that is not whole.
+// Passes over count items from a place on; stops at the first that is not whole. Not inlined, so that
+// passing over an item that holds no others is.
 #[cycle(pass_container_pass_item_pass_items)]
-fn pass_items(s: &[u8], from: usize, count: usize, allowance: usize) -> Passed
+#[inline(never)]
+fn pass_items(s: &[u8], from: usize, count: usize, allowance: usize) -> Result<usize, Fault>
     ensures { passage_of result ≡ pass_items (pass_item allowance) count (drop from s.now) }
 {
     let mut at = from;
-    let mut left = count;
-    while 0 < left {
-        match pass_item(s, at, head_at(s, at), allowance) {
-            Passed::Whole(n) => {
-                at += n;
-                left -= 1;
-            }
-            Passed::Cut => return Passed::Cut,
-            Passed::TooDeep => return Passed::TooDeep,
-        }
+    for _ in 0..count {
+        at += pass_item(s, at, head_at(s, at), allowance)?;
     }
-    Passed::Whole(at - from)
+    Ok(at - from)
 }
 
-// Passes over the item at the front of s.
-pub fn pass_over(s: &[u8]) -> Passed
+// Passes over the item at the front of s, and answers how many bytes it has.
+pub fn pass_over(s: &[u8]) -> Result<usize, Fault>
     ensures { passage_of result ≡ pass_over s.now }
 {
     pass_item(s, 0, head_at(s, 0), ALLOWANCE)
@@ -240,36 +229,31 @@ pub fn pass_over(s: &[u8]) -> Passed
 // ---- the short form: the fixed one if it holds the argument, else the least that does
 
 // Whether a first byte alone holds n: an integer, a length or a count, as the kind says.
-fn fixed_holds(kind: usize, n: u64) -> bool
-    ensures { result ≡ fixed_holds kind (plus n) }
+fn fixed_holds(kind: Kind, n: u64) -> bool
+    ensures { result ≡ fixed_holds (kind_index kind) (plus n) }
 {
-    if kind == INTEGER {
-        return n < 128;
+    match kind {
+        Kind::Integer => n < 128,
+        Kind::Text => n < 32,
+        Kind::Binary => false,
+        Kind::Extension => (n == 1) | (n == 2) | (n == 4) | (n == 8) | (n == 16),
+        Kind::Array | Kind::Map => n < 16,
+        Kind::Unused | Kind::Nil | Kind::Boolean | Kind::Float => true,
     }
-    if kind == TEXT {
-        return n < 32;
-    }
-    if kind == BINARY {
-        return false;
-    }
-    if kind == EXTENSION {
-        return (n == 1) | (n == 2) | (n == 4) | (n == 8) | (n == 16);
-    }
-    if ARRAY <= kind {
-        return n < 16;
-    }
-    true
 }
 
 // How many bytes the short form of n has for it behind its first byte.
-pub fn short_width(kind: usize, n: u64) -> usize
-    ensures { result ≡ short_width kind (plus n) }
+pub fn short_width(kind: Kind, n: u64) -> usize
+    ensures { result ≡ short_width (kind_index kind) (plus n) }
 {
     if fixed_holds(kind, n) {
         return 0;
     }
     if n < 256 {
-        return if kind < ARRAY { 1 } else { 2 };
+        return match kind {
+            Kind::Array | Kind::Map => 2,
+            _ => 1,
+        };
     }
     if n < 65536 {
         return 2;
@@ -303,7 +287,7 @@ fn is_signed(b: u8) -> bool
 // Whether a head, of no integer, is the short form of its count.
 fn short_count(h: Head) -> bool
     requires { 0 < h.size }
-    ensures { result ≡ eqb (h.size - 1) (short_width h.kind (plus h.count)) }
+    ensures { result ≡ eqb (h.size - 1) (short_width (kind_index h.kind) (plus h.count)) }
 {
     let width = h.size - 1;
     width == short_width(h.kind, h.count as u64)
@@ -312,9 +296,9 @@ fn short_count(h: Head) -> bool
 // ---- the readers
 
 // Whether a head is of this kind, and all the bytes that it asks for lie within len.
-fn is_whole(kind: usize, h: Head, len: usize) -> bool
+fn is_whole(kind: Kind, h: Head, len: usize) -> bool
     requires { h.size ≤ len }
-    ensures { result ≡ is_whole kind (head_read h) len }
+    ensures { result ≡ is_whole (kind_index kind) (head_read h) len }
 {
     if h.kind == kind {
         h.count <= len - h.size
@@ -324,89 +308,77 @@ fn is_whole(kind: usize, h: Head, len: usize) -> bool
 }
 
 // The content of a text, or of bytes: where it starts, how long it is, and whether its head is the short
-// one; or that none is there whole.
+// one.
 #[derive(Clone, Copy)]
-pub enum Content {
-    Part {
-        start: usize,
-        len: usize,
-        short: bool,
-    },
-    Missing,
+pub struct Content {
+    pub start: usize,
+    pub len: usize,
+    pub short: bool,
 }
 
-// The content of the text or bytes at the front of s, as the kind says.
-fn content_at(kind: usize, s: &[u8]) -> Content
-    requires { integer_kind < kind }
-    ensures result_value { part_of result ≡ content_at kind s.now }
-    ensures short { part_short result ≡ short_front s.now (length_read (content_at kind s.now)) }
+// The content of the text or bytes at the front of s, as the kind says; none where it is not there whole.
+fn content_at(kind: Kind, s: &[u8]) -> Option<Content>
+    requires { integer_kind < kind_index kind }
+    ensures result_value { part_of result ≡ content_at (kind_index kind) s.now }
+    ensures short { part_short result ≡ short_front s.now (length_read (content_at (kind_index kind) s.now)) }
 {
     let h = head_at(s, 0);
     if is_whole(kind, h, s.len()) {
-        Content::Part {
+        Some(Content {
             start: h.size,
             len: h.count,
             short: short_count(h),
-        }
+        })
     } else {
-        Content::Missing
+        None
     }
 }
 
 // The text at the front of s.
-pub fn read_text(s: &[u8]) -> Content
+pub fn read_text(s: &[u8]) -> Option<Content>
     ensures result_value { part_of result ≡ read_text s.now }
     ensures short { part_short result ≡ short_front s.now (length_read (read_text s.now)) }
 {
-    content_at(TEXT, s)
+    content_at(Kind::Text, s)
 }
 
 // The bytes at the front of s.
-pub fn read_binary(s: &[u8]) -> Content
+pub fn read_binary(s: &[u8]) -> Option<Content>
     ensures result_value { part_of result ≡ read_binary s.now }
     ensures short { part_short result ≡ short_front s.now (length_read (read_binary s.now)) }
 {
-    content_at(BINARY, s)
-}
-
-#[derive(Clone, Copy)]
-pub enum Boolean {
-    Read(bool),
-    Missing,
+    content_at(Kind::Binary, s)
 }
 
 // The boolean at the front of s.
-pub fn read_boolean(s: &[u8]) -> Boolean
-    ensures { boolean_of result ≡ read_boolean s.now }
+pub fn read_boolean(s: &[u8]) -> Option<bool>
+    ensures { result ≡ read_boolean s.now }
 {
     let h = head_at(s, 0);
-    if is_whole(BOOLEAN, h, s.len()) {
-        Boolean::Read(s[0] == 0xc3)
-    } else {
-        Boolean::Missing
+    if !is_whole(Kind::Boolean, h, s.len()) {
+        return None;
     }
+    Some(s[0] == 0xc3)
 }
 
-// An integer from -2^63 to 2^64 - 1, by its magnitude, and whether its form is the short one; or that
-// none is there whole.
+// An integer from -2^63 to 2^64 - 1, by its magnitude, and whether its form is the short one.
 #[derive(Clone, Copy)]
 pub enum Integer {
     NonNegative(u64, bool),
     Negative(u64, bool),
-    Missing,
 }
 
 // The integer n, in the form with this first byte and width bytes behind it.
 fn non_negative(b: u8, width: usize, n: u64) -> Integer
     ensures { IntegerTold b width (plus n) result }
 {
-    Integer::NonNegative(n, (width == short_width(INTEGER, n)) & !is_signed(b))
+    Integer::NonNegative(n, (width == short_width(Kind::Integer, n)) & !is_signed(b))
 }
 
 // The integer -n, in a form with width bytes behind its first byte.
 fn negative(width: usize, n: u64) -> Integer
-    ensures result_value { integer_read result ≡ some (minus n) }
-    ensures short { integer_short result ≡ eqb width (short_width integer_kind (minus n)) }
+    ensures result_value { integer_read (Some result) ≡ Some (minus n) }
+    ensures short { integer_short (Some result) ≡ eqb width (short_width integer_kind (minus n)) }
 {
     Integer::Negative(n, width == negative_width(n))
 }
@@ -456,67 +428,61 @@ fn integer_of(b: u8, width: usize, n: u64) -> Integer
 }
 
 // The integer at the front of s.
-pub fn read_integer(s: &[u8]) -> Integer
+pub fn read_integer(s: &[u8]) -> Option<Integer>
     ensures result_value { integer_read result ≡ read_integer s.now }
     ensures short { integer_short result ≡ short_front s.now (read_integer s.now) }
 {
     let h = head_at(s, 0);
-    if is_whole(INTEGER, h, s.len()) {
-        let size = h.size;
+    if is_whole(Kind::Integer, h, s.len()) {
         let count = h.count;
-        match endian::read_big(s, size, count) {
-            Number::Read(n) => integer_of(s[0], count, n),
-            // Never: an integer has at most 8 bytes, and they are there.
-            Number::Missing => Integer::Missing,
-        }
+        // Never None: an integer has at most 8 bytes, and they are there.
+        let n = endian::read_big(s, h.size, count)?;
+        Some(integer_of(s[0], count, n))
     } else {
-        Integer::Missing
+        None
     }
 }
 
 // The head of an array or map: how many items, or pairs, its own length, and whether it is the short one.
 #[derive(Clone, Copy)]
-pub enum Items {
-    Counted {
-        count: usize,
-        size: usize,
-        short: bool,
-    },
-    Missing,
+pub struct Items {
+    pub count: usize,
+    pub size: usize,
+    pub short: bool,
 }
 
 // The head of the array or map at the front of s, as the kind says.
-fn count_at(kind: usize, s: &[u8]) -> Items
-    requires { integer_kind < kind }
-    ensures result_value { counted_of result ≡ count_at kind s.now }
-    ensures short { counted_short result ≡ short_front s.now (count_read (count_at kind s.now)) }
+fn count_at(kind: Kind, s: &[u8]) -> Option<Items>
+    requires { integer_kind < kind_index kind }
+    ensures result_value { counted_of result ≡ count_at (kind_index kind) s.now }
+    ensures short { counted_short result ≡ short_front s.now (count_read (count_at (kind_index kind) s.now)) }
 {
     let h = head_at(s, 0);
     if h.kind == kind {
-        Items::Counted {
+        Some(Items {
             count: h.count,
             size: h.size,
             short: short_count(h),
-        }
+        })
     } else {
-        Items::Missing
+        None
     }
 }
 
 // The head of an array at the front of s.
-pub fn read_array(s: &[u8]) -> Items
+pub fn read_array(s: &[u8]) -> Option<Items>
     ensures result_value { counted_of result ≡ read_array s.now }
     ensures short { counted_short result ≡ short_front s.now (count_read (read_array s.now)) }
 {
-    count_at(ARRAY, s)
+    count_at(Kind::Array, s)
 }
 
 // The head of a map at the front of s.
-pub fn read_map(s: &[u8]) -> Items
+pub fn read_map(s: &[u8]) -> Option<Items>
     ensures result_value { counted_of result ≡ read_map s.now }
     ensures short { counted_short result ≡ short_front s.now (count_read (read_map s.now)) }
 {
-    count_at(MAP, s)
+    count_at(Kind::Map, s)
 }
 
 // ---- the pairs of a map
@@ -535,68 +501,45 @@ fn code_at(s: &[u8], at: usize, h: Head) -> u64
 {
     let count = h.count;
     let size = h.size;
-    if h.kind != TEXT {
+    if h.kind != Kind::Text {
         return OTHER;
     }
     if 3 < count {
         return OTHER;
     }
     match endian::read_big(s, at + size, count) {
-        Number::Read(n) => (1 << (8 * count)) + n,
-        Number::Missing => OTHER,
+        Some(n) => (1 << (8 * count)) + n,
+        None => OTHER,
     }
 }
 
-// A pair of an outermost map, passed over.
+// A pair of an outermost map, passed over: the code of its key, where its value stands, and where the
+// next pair does.
 #[derive(Clone, Copy)]
-pub enum Pair {
-    // The code of its key, where its value stands, and where the next pair does.
-    Whole {
-        code: u64,
-        value: usize,
-        next: usize,
-    },
-    // The first of its two items that is not whole is cut.
-    Cut,
-    TooDeep,
+pub struct Pair {
+    pub code: u64,
+    pub value: usize,
+    pub next: usize,
 }
 
 // The pair at a place of s. The code of a key that is a text of at most 3 bytes is these bytes, with a
-// 1 before them, as a number; all other keys have one code.
-pub fn pair_at(s: &[u8], at: usize) -> Pair
+// 1 before them, as a number; all other keys have one code. Of its two items the first that is not
+// whole settles the fault.
+pub fn pair_at(s: &[u8], at: usize) -> Result<Pair, Fault>
     ensures { pair_of result ≡ pair_at s.now at }
 {
     let h = head_at(s, at);
-    match pass_item(s, at, h, INSIDE) {
-        Passed::Whole(k) => {
-            let value = at + k;
-            match pass_item(s, value, head_at(s, value), INSIDE) {
-                Passed::Whole(n) => Pair::Whole {
-                    code: code_at(s, at, h),
-                    value,
-                    next: value + n,
-                },
-                Passed::Cut => Pair::Cut,
-                Passed::TooDeep => Pair::TooDeep,
-            }
-        }
-        Passed::Cut => Pair::Cut,
-        Passed::TooDeep => Pair::TooDeep,
-    }
+    let value = at + pass_item(s, at, h, INSIDE)?;
+    let next = value + pass_item(s, value, head_at(s, value), INSIDE)?;
+    let code = code_at(s, at, h);
+    Ok(Pair { code, value, next })
 }
 
 // Where a code first stands among the keys; 8 where it does not.
 fn position(keys: [u64; 8], code: u64) -> usize
     ensures { result ≡ position keys code }
 {
-    let mut j = 0;
-    while j < 8 {
-        if keys[j] == code {
-            return j;
-        }
-        j += 1;
-    }
-    8
+    keys.iter().position(|&key| key == code).unwrap_or(8)
 }
 
 // The values of the keys asked for, among the pairs passed so far: where the last of each stands, 0
@@ -627,14 +570,14 @@ fn with_value(values: Values, j: usize, place: usize) -> Values
 // stands, 0 where the key is missing, and whether it is repeated.
 #[derive(Clone, Copy)]
 pub struct Pairs {
-    pub passed: Passed,
+    pub passed: Result<usize, Fault>,
     pub map: bool,
     pub places: [usize; 8],
     pub repeated: [bool; 8],
 }
 
 // An item that is no whole map.
-fn no_pairs(passed: Passed) -> Pairs
+fn no_pairs(passed: Result<usize, Fault>) -> Pairs
     ensures { NoPairs (passage_of passed) result }
 {
     Pairs {
@@ -645,32 +588,29 @@ fn no_pairs(passed: Passed) -> Pairs
     }
 }
 
-// The pairs of a map, count of them from a place on.
-fn pairs_from(s: &[u8], from: usize, count: usize, keys: [u64; 8]) -> Pairs
+// The pairs of a map, so many from a place on.
+fn pairs_from(s: &[u8], from: usize, pairs: usize, keys: [u64; 8]) -> Pairs
     requires { 0 < from }
-    ensures { PairsFrom s.now keys from count result }
+    ensures { PairsFrom s.now keys from pairs result }
 {
     let mut at = from;
-    let mut pairs = count;
     let mut values = Values {
         places: [0; 8],
         repeated: [false; 8],
     };
-    while 0 < pairs {
+    for _ in 0..pairs {
         match pair_at(s, at) {
-            Pair::Whole { code, value, next } => {
-                values = with_value(values, position(keys, code), value);
-                at = next;
-                pairs -= 1;
+            Ok(pair) => {
+                values = with_value(values, position(keys, pair.code), pair.value);
+                at = pair.next;
             }
-            Pair::Cut => return no_pairs(Passed::Cut),
-            Pair::TooDeep => return no_pairs(Passed::TooDeep),
+            Err(f) => return no_pairs(Err(f)),
         }
     }
     let places = values.places;
     let repeated = values.repeated;
     Pairs {
-        passed: Passed::Whole(at),
+        passed: Ok(at),
         map: true,
         places,
         repeated,
@@ -682,7 +622,7 @@ pub fn read_pairs(s: &[u8], keys: [u64; 8]) -> Pairs
     ensures { PairsRead s.now keys result }
 {
     let h = head_at(s, 0);
-    if h.kind == MAP {
+    if h.kind == Kind::Map {
         let count = h.count;
         let from = h.size;
         return pairs_from(s, from, count, keys);

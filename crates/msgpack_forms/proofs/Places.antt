@@ -2,7 +2,7 @@
 use Prim.Native.Nat.{ℕ, zero, suc, ◌+◌, ◌-◌, ◌≤◌, ◌<◌}
 use mathlib.Core.Bool.{Bool, true}
 use mathlib.Core.List.{List}
-use mathlib.Core.Option.{Option}
+use Rattle.std.specs.Prelude.{Option, Result, Ok, Err, is_ok}
 use mathlib.Core.Path.{◌≡◌, refl, sym, ap, ◌∙◌}
 use native.Mathlib.Nat.{not-suc-le-zero, add-zero}
 use native.Mathlib.Numerals.{sub-one}
@@ -14,12 +14,14 @@ use Rattle.slices.specs.Bytes.{AllBytes, drop_bytes}
 use Rattle.slices.specs.Logic.{absurd_numbers}
 use Rattle.refusals.specs.Answers.{granted, refused}
 use Rattle.msgpack.specs.Formats.{unused_kind, integer_kind, array_kind}
-use Rattle.msgpack.specs.Items.{Head, Passage, whole, cut, too_deep, head_of, items_of, beyond, pass_items, pass_item, depth_allowed, pass_over}
+use Rattle.msgpack.specs.Items.{Head, Passage, whole, cut, too_deep, head_of, items_of, beyond, pass_items, pass_item, depth_allowed, pass_over, passage_of, number_of}
+use Rattle.msgpack.specs.declared.Fault.{Fault}
+use Rattle.msgpack.specs.declared.Fault.TheVariants.{Cut, TooDeep}
 use Rattle.msgpack.specs.Readers.{Int, plus, read_integer}
 use Rattle.msgpack.specs.Short.{short_width, short_front}
 use Rattle.msgpack.specs.PassingLaws.{head_within, too_deep_lem, unused, flat_whole, flat_cut}
 use Rattle.msgpack.specs.Passages.{item_inside, head_inside}
-use Rattle.msgpack_forms.specs.Items.{argument_of, Form, integer_form_by, form_at, short_item, is_whole_passage, all_short, item, item_at}
+use Rattle.msgpack_forms.specs.Items.{argument_of, Form, integer_form_by, form_at, short_item, all_short, item, item_at}
 use Rattle.msgpack_forms.specs.FormLaws.{integer_form, other_form}
 use Rattle.msgpack_forms.specs.ShortLaws.{short_zero, short_flat, short_within, short_unused, short_whole}
 
@@ -95,15 +97,14 @@ module _ (s : List ℕ) where
   unfolding item_at
   item_told_lem n kind f p k q = rw (p, k, q)
 
-  pub item_cut : pass_over s ≡ cut → refused 9 ≡ item_at s
+  pub item_fault : (f : Fault) → pass_over s ≡ passage_of (Err f) → refused (number_of f) ≡ item_at s
   unfolding item_at
-  item_cut p = rw p
-
-  pub item_deep : pass_over s ≡ too_deep → refused 10 ≡ item_at s
-  unfolding item_at
-  item_deep p = rw p
+  item_fault Cut p = rw p
+  item_fault TooDeep p = rw p
 
 -- the answer, from what passing over gave
-pub all_told : (s : List ℕ) (r : Passage) → short_item depth_allowed s ≡ r → is_whole_passage r ≡ all_short s
+pub all_told : (s : List ℕ) (r : Result ℕ Fault) → short_item depth_allowed s ≡ passage_of r → is_ok r ≡ all_short s
 unfolding all_short
-all_told s r e = rw e
+all_told s (Ok n) e = rw e
+all_told s (Err Cut) e = rw e
+all_told s (Err TooDeep) e = rw e

@@ -1,14 +1,14 @@
 -- Short forms in bytes: the item at the front with its form, and whether all forms of an item are short, its own and those of each item in it.
 use Rattle.std.specs.Prelude.{ℕ, zero, suc, ◌-◌, Bool, true, false, cond, List, leb, eqb, get_or}
-use Rattle.std.proofs.Math.Option.{Option, none, some}
+use Rattle.std.specs.Prelude.{Option, None, Some, Result, Ok, Err}
 use Rattle.refusals.specs.Answers.{Answer, granted, refused}
-use Rattle.msgpack.specs.Formats.{boolean_kind, integer_kind, text_kind, extension_kind}
-use Rattle.msgpack.specs.Items.{Passage, whole, cut, too_deep, head_of, pass_items, pass_head, depth_allowed, pass_over}
+use Rattle.msgpack.specs.Formats.{kind_index, boolean_kind, integer_kind, text_kind, extension_kind}
+use Rattle.msgpack.specs.Items.{Passage, whole, cut, too_deep, head_of, pass_items, pass_head, depth_allowed, number_of, pass_over}
 use Rattle.msgpack.specs.Readers.{Int, plus, minus, read_integer}
 use Rattle.msgpack.specs.Short.{is_short}
+use Rattle.msgpack.specs.declared.Fault.{Fault}
 use Rattle.msgpack_forms.specs.declared.Form as declared
-use Rattle.msgpack_forms.specs.declared.Front as front
-use Rattle.msgpack_forms.specs.declared.Front.TheVariants as front-answer
+use Rattle.msgpack_forms.specs.declared.Item as declared-item
 
 -- ---- one form
 
@@ -21,7 +21,7 @@ argument_of kind b count =
 -- the argument of the item at the front; none where an integer's bytes end early
 unfoldable pub argument_at : List ℕ → Option Int
 argument_at s =
-    cond (eqb (head_of s).kind integer_kind) (read_integer s) (some (plus (argument_of (head_of s).kind (get_or s 0 0) (head_of s).count)))
+    cond (eqb (head_of s).kind integer_kind) (read_integer s) (Some (plus (argument_of (head_of s).kind (get_or s 0 0) (head_of s).count)))
 
 -- an argument, and whether it stands in its short form
 pub record Form : Type 0 where
@@ -29,13 +29,13 @@ pub record Form : Type 0 where
   pub short : Bool
 
 abbrev pub form_by : ℕ → Option Int → Form
-form_by b (some i) = record { argument = i; short = is_short b i }
-form_by b none = record { argument = plus 0; short = false }
+form_by b (Some i) = record { argument = i; short = is_short b i }
+form_by b None = record { argument = plus 0; short = false }
 
 -- the same of an integer, by what its reader says of its form
 abbrev pub integer_form_by : Bool → Option Int → Form
-integer_form_by short (some i) = record { argument = i; short = short }
-integer_form_by short none = record { argument = plus 0; short = false }
+integer_form_by short (Some i) = record { argument = i; short = short }
+integer_form_by short None = record { argument = plus 0; short = false }
 
 abbrev pub form_at : List ℕ → Form
 form_at s = form_by (get_or s 0 0) (argument_at s)
@@ -80,6 +80,6 @@ item_by s too_deep = refused 10
 unfoldable pub item_at : List ℕ → Answer Item
 item_at s = item_by s (pass_over s)
 
-abbrev pub item_read : front.Front → Answer Item
-item_read (front-answer.Item i) = granted (item i.kind i.size (record { argument = integer_by i.negative i.argument; short = i.short }))
-item_read (front-answer.Refused n) = refused n
+abbrev pub item_read : Result declared-item.Item Fault → Answer Item
+item_read (Ok i) = granted (item (kind_index i.kind) i.size (record { argument = integer_by i.negative i.argument; short = i.short }))
+item_read (Err f) = refused (number_of f)

@@ -2,7 +2,7 @@
 use Prim.Native.Nat.{ℕ, suc, ◌+◌, ◌%◌, ◌≤◌, ◌<◌}
 use mathlib.Core.Bool.{Bool, true, false, cond}
 use mathlib.Core.List.{List, [], ◌∷◌}
-use mathlib.Core.Option.{Option, none, some}
+use Rattle.std.specs.Prelude.{Option, None, Some}
 use mathlib.Core.Path.{◌≡◌, refl, sym, ap, ◌∙◌}
 use native.Mathlib.Omega.{arith}
 use borrow.Author.Tests.{le-leb, lt-leb, ltb-true}
@@ -71,7 +71,7 @@ module _ (s : List ℕ) (at first width n : ℕ) where
   form_length = ap suc (length_big_bytes width n) ∙ omega arith
 
   module _ (short : length s < at + (1 + width)) where
-    pub no_place : none ≡ next_place (length s) at (form_bytes (form first width) n)
+    pub no_place : None ≡ next_place (length s) at (form_bytes (form first width) n)
     unfolding next_place
     no_place = rw (form_length, lt-leb (at + (1 + width)) (length s) short)
 
@@ -80,7 +80,7 @@ module _ (s : List ℕ) (at first width n : ℕ) where
     unwritten = rw (form_length, lt-leb (at + (1 + width)) (length s) short)
 
   module _ (room : at + (1 + width) ≤ length s) where
-    pub next_place_lem : some (at + (1 + width)) ≡ next_place (length s) at (form_bytes (form first width) n)
+    pub next_place_lem : Some (at + (1 + width)) ≡ next_place (length s) at (form_bytes (form first width) n)
     unfolding next_place
     next_place_lem = rw (form_length, le-leb (at + (1 + width)) (length s) room)
 

@@ -1,10 +1,8 @@
 -- The shortest heads, and the place after one.
 use Rattle.std.specs.Prelude.{ℕ, ◌+◌, cond, List, ◌∷◌, ltb, leb, length}
-use Rattle.std.proofs.Math.Option.{Option, none, some}
+use Rattle.std.specs.Prelude.{Option, None, Some}
 use Rattle.endian.specs.Numbers.{big_bytes}
 use Rattle.msgpack_heads.specs.declared.Form as declared
-use Rattle.msgpack_heads.specs.declared.Written.{Written}
-use Rattle.msgpack_heads.specs.declared.Written.TheVariants as written-answer
 
 -- a first byte, and the width of the number after it
 pub record Form : Type 0 where
@@ -57,8 +55,4 @@ map_head n = form_bytes (container_form 0x80 0xde n) n
 
 -- the place after the bytes e, where all of them lie within
 unfoldable pub next_place : ℕ → ℕ → List ℕ → Option ℕ
-next_place len at e = cond (leb (at + length e) len) (some (at + length e)) none
-
-abbrev pub next_of : Written → Option ℕ
-next_of (written-answer.Next n) = some n
-next_of written-answer.NoRoom = none
+next_place len at e = cond (leb (at + length e) len) (Some (at + length e)) None

@@ -3,7 +3,7 @@
 
 ghost use Rattle.std.specs.Prelude.{◌≡◌, ◌≤◌, ◌<◌, length};
 ghost use Rattle.slices.specs.Overwriting.{written_bytes};
-ghost use Rattle.msgpack_heads.specs.Heads.{form_read, form_bytes, sized_form, text_form, unsigned_form, container_form, text_head, binary_head, unsigned_integer, array_head, map_head, next_place, next_of};
+ghost use Rattle.msgpack_heads.specs.Heads.{form_read, form_bytes, sized_form, text_form, unsigned_form, container_form, text_head, binary_head, unsigned_integer, array_head, map_head, next_place};
 
 // A first byte, and the width of the number after it.
 #[derive(Clone, Copy)]
@@ -82,69 +82,62 @@ fn container_form(fixed: u64, sized: u64, n: u64) -> Form
     }
 }
 
-// What a write answers: the place after what was written; or that it does not all lie within the
-// buffer, and nothing was written.
-#[derive(Clone, Copy)]
-pub enum Written {
-    Next(usize),
-    NoRoom,
-}
-
-// Writes the first byte of a form and its number at a place.
-fn put(out: &mut [u8], at: usize, f: Form, n: u64) -> Written
+// Writes the first byte of a form and its number at a place. A write answers the place after what was
+// written; none where it does not all lie within the buffer, and nothing was written.
+fn put(out: &mut [u8], at: usize, f: Form, n: u64) -> Option<usize>
     requires { (f.first < 256) × (f.width ≤ 8) }
-    ensures result_value { next_of result ≡ next_place (length out.old) at (form_bytes (form_read f) n) }
+    ensures result_value { result ≡ next_place (length out.old) at (form_bytes (form_read f) n) }
     ensures out_after { out.new ≡ written_bytes out.old at (form_bytes (form_read f) n) }
 {
     let first = f.first;
     let width = f.width;
     let size = 1 + width;
     if out.len() < size {
-        return Written::NoRoom;
+        return None;
     }
     if out.len() - size < at {
-        return Written::NoRoom;
+        return None;
     }
     let _ = endian::write_big(out, at, 1, first);
     let _ = endian::write_big(out, at + 1, width, n);
-    Written::Next(at + size)
+    Some(at + size)
 }
 
 // The head of a text of n bytes, at a place of out.
-pub fn write_text_head(out: &mut [u8], at: usize, n: u32) -> Written
-    ensures result_value { next_of result ≡ next_place (length out.old) at (text_head n) }
+pub fn write_text_head(out: &mut [u8], at: usize, n: u32) -> Option<usize>
+    ensures result_value { result ≡ next_place (length out.old) at (text_head n) }
     ensures out_after { out.new ≡ written_bytes out.old at (text_head n) }
 {
     put(out, at, text_form(n as u64), n as u64)
 }
 
 // The head of n bytes.
-pub fn write_binary_head(out: &mut [u8], at: usize, n: u32) -> Written
-    ensures result_value { next_of result ≡ next_place (length out.old) at (binary_head n) }
+pub fn write_binary_head(out: &mut [u8], at: usize, n: u32) -> Option<usize>
+    ensures result_value { result ≡ next_place (length out.old) at (binary_head n) }
     ensures out_after { out.new ≡ written_bytes out.old at (binary_head n) }
 {
     put(out, at, sized_form(0xc4, n as u64), n as u64)
 }
 
 // The integer n, in the shortest of the unsigned forms.
-pub fn write_unsigned(out: &mut [u8], at: usize, n: u64) -> Written
-    ensures result_value { next_of result ≡ next_place (length out.old) at (unsigned_integer n) }
+pub fn write_unsigned(out: &mut [u8], at: usize, n: u64) -> Option<usize>
+    ensures result_value { result ≡ next_place (length out.old) at (unsigned_integer n) }
     ensures out_after { out.new ≡ written_bytes out.old at (unsigned_integer n) }
 {
     put(out, at, unsigned_form(n), n)
 }
 
 // The head of an array of n items.
-pub fn write_array_head(out: &mut [u8], at: usize, n: u32) -> Written
-    ensures result_value { next_of result ≡ next_place (length out.old) at (array_head n) }
+pub fn write_array_head(out: &mut [u8], at: usize, n: u32) -> Option<usize>
+    ensures result_value { result ≡ next_place (length out.old) at (array_head n) }
     ensures out_after { out.new ≡ written_bytes out.old at (array_head n) }
 {
     put(out, at, container_form(0x90, 0xdc, n as u64), n as u64)
 }
 
 // The head of a map of n pairs.
-pub fn write_map_head(out: &mut [u8], at: usize, n: u32) -> Written
-    ensures result_value { next_of result ≡ next_place (length out.old) at (map_head n) }
+pub fn write_map_head(out: &mut [u8], at: usize, n: u32) -> Option<usize>
+    ensures result_value { result ≡ next_place (length out.old) at (map_head n) }
     ensures out_after { out.new ≡ written_bytes out.old at (map_head n) }
 {
     put(out, at, container_form(0x80, 0xde, n as u64), n as u64)

@@ -4,7 +4,7 @@
 
 ghost use Rattle.io.specs.Counts.{IsPrefixLen};
 
-use msgpack::Passed;
+use msgpack::Fault;
 use std::io::Read as _;
 
 // Reads until the buffer is full, the input ends or a read fails, and answers how many bytes it put at the front.
@@ -30,13 +30,13 @@ fn main(rt: HostRuntime) {
         return;
     }
     match msgpack::pass_over(&buffer[..n]) {
-        Passed::Whole(len) => {
+        Ok(len) => {
             let _ = println!(rt; "whole {len}");
         }
-        Passed::Cut => {
+        Err(Fault::Cut) => {
             let _ = println!(rt; "cut");
         }
-        Passed::TooDeep => {
+        Err(Fault::TooDeep) => {
             let _ = println!(rt; "too deep");
         }
     }

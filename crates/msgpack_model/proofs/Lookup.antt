@@ -2,7 +2,7 @@
 -- order of pairs plays no part.
 use Rattle.std.specs.Prelude.{ℕ, suc, ◌+◌, ◌≤◌, Bool, true, false, cond, ◌≡◌, refl}
 use mathlib.Core.List.{List, ◌++◌, append_assoc}
-use Rattle.std.proofs.Math.Option.{Option, some, none as nothing}
+use Rattle.std.specs.Prelude.{Option, Some, None as nothing}
 use Rattle.std.proofs.Math.Path.{sym, ap}
 use Rattle.std.proofs.Common.{◌∙◌, arith, ne_eqb, drop-drop}
 use Rattle.std.proofs.Math.ListN.{length, drop}
@@ -27,7 +27,7 @@ unfolding key_at
 key_reads key {e = e} x rest = by (read_text (e ++ rest)) ∙ ap (is_text key) (text_reads x rest)
   where
     by : (p : Option Part) → content_is key (e ++ rest) p ≡ is_text key (content_of_part (e ++ rest) p)
-    by (some p) = refl
+    by (Some p) = refl
     by nothing = refl
 
 -- ---- the value that is found
@@ -60,7 +60,7 @@ module _ (a : ℕ) (key s : List ℕ) where
       ∙ ap (drop (length f)) to_value ∙ drop-append_seam f (g ++ rest) in
       rw (joined, one_pair a key x z (omega arith) (omega arith) (count_pairs ps) from (g ++ rest) best)
       (pairs_found xs (omega arith) (from + length e + length f) rest to_next (cond (key_is key k) (found (from + length e)) best)
-      (cond (key_is key k) (some v) known)
+      (cond (key_is key k) (Some v) known)
       (better (key_is key k) (value_there (g ++ rest) to_value z) y))
 
 -- ---- the last value in the map at the front
@@ -123,7 +123,7 @@ map_lookup : (key : List ℕ) {ps : Pairs} {e : List ℕ} → Encodes (Map ps) e
     → FoundAt (e ++ rest) (last_value key (e ++ rest)) (last_in key ps)
 map_lookup key x d rest = in_map_found (last_value_lem key x d rest)
   where
-    in_map_found : {s : List ℕ} {ps : Pairs} → MapLookup key s (some ps) → FoundAt s (last_value key s) (last_in key ps)
+    in_map_found : {s : List ℕ} {ps : Pairs} → MapLookup key s (Some ps) → FoundAt s (last_value key s) (last_in key ps)
     in_map_found (in_map y) = y
 
 -- any two encodings of maps with the same pairs, in any order: what is found in both is one value, or both have none

@@ -2,7 +2,7 @@
 use Rattle.std.specs.Prelude.{ℕ, ◌+◌, ◌≤◌, ◌<◌, Bool, true, false, ◌&&◌, List, ◌++◌, ◌≡◌, leb, eqb, length, get_or, take, drop}
 use Rattle.std.proofs.Math.Bool.{cond}
 use Rattle.std.proofs.Common.{append_assoc, ap, ◌∙◌, arith, le-leb, ne_eqb, eqb-true, length-append, length-drop, length-take-le}
-use Rattle.std.proofs.Math.Option.{some, none as nothing}
+use Rattle.std.specs.Prelude.{Some, None as nothing}
 use Rattle.std.proofs.Math.Path.{refl}
 use Rattle.std.proofs.Math.Seq.{drop-append_seam}
 use Rattle.slices.specs.Bytes.{AllBytes}
@@ -26,10 +26,10 @@ use Rattle.msgpack_model.specs.Readers.{ArrayRead, is_array, no_array, MapRead, 
 -- ---- at a scalar
 
 integer_by_lem : (kind b w : ℕ) (body : List ℕ) → length body ≡ w → kind < 8
-    → cond (eqb kind integer_kind && true) (some (integer_of b w (big body))) nothing ≡ as_integer (scalar_of kind b body)
+    → cond (eqb kind integer_kind && true) (Some (integer_of b w (big body))) nothing ≡ as_integer (scalar_of kind b body)
 unfolding scalar_of
 integer_by_lem kind b w body size h =
-    rw (← size) (agree (λ k. cond (eqb k integer_kind && true) (some (integer_of b (length body) (big body))) nothing)
+    rw (← size) (agree (λ k. cond (eqb k integer_kind && true) (Some (integer_of b (length body) (big body))) nothing)
     (λ k. as_integer (scalar_of k b body)) 8 refl kind h)
 
 module _ (s : List ℕ) (f : ScalarFront s) where
@@ -50,21 +50,21 @@ module _ (s : List ℕ) (f : ScalarFront s) where
   unfolding read_boolean is_whole scalar_of
   boolean_scalar =
       rw fits
-      (agree (λ k. cond (eqb k boolean_kind && true) (some (eqb (get_or s 0 0) 0xc3)) nothing)
+      (agree (λ k. cond (eqb k boolean_kind && true) (Some (eqb (get_or s 0 0) 0xc3)) nothing)
       (λ k. as_boolean (scalar_of k (get_or s 0 0) (content_of s))) 8 refl (head_of s).kind kind_small)
 
   text_scalar : content_of_part s (read_text s) ≡ as_text (scalar_at s)
   unfolding content_at is_whole scalar_of
   text_scalar =
       rw fits
-      (agree (λ k. content_of_part s (cond (eqb k text_kind && true) (some (part (head_of s).size (head_of s).count)) nothing))
+      (agree (λ k. content_of_part s (cond (eqb k text_kind && true) (Some (part (head_of s).size (head_of s).count)) nothing))
       (λ k. as_text (scalar_of k (get_or s 0 0) (content_of s))) 8 refl (head_of s).kind kind_small)
 
   binary_scalar : content_of_part s (read_binary s) ≡ as_binary (scalar_at s)
   unfolding content_at is_whole scalar_of
   binary_scalar =
       rw fits
-      (agree (λ k. content_of_part s (cond (eqb k binary_kind && true) (some (part (head_of s).size (head_of s).count)) nothing))
+      (agree (λ k. content_of_part s (cond (eqb k binary_kind && true) (Some (part (head_of s).size (head_of s).count)) nothing))
       (λ k. as_binary (scalar_of k (get_or s 0 0) (content_of s))) 8 refl (head_of s).kind kind_small)
 
 -- ---- each reader, of every encoding
@@ -105,11 +105,11 @@ behind_head h e rest = rw (append_assoc h e rest, drop-append_seam h (e ++ rest)
 behind_inside : (h e rest : List ℕ) → length h ≤ length ((h ++ e) ++ rest)
 behind_inside h e rest = rw (append_assoc h e rest, length-append h (e ++ rest)) (omega arith)
 
-array_count : (vs : Values) (h e rest : List ℕ) → ArrayHead (count_values vs) h → read_array ((h ++ e) ++ rest) ≡ some (counted (count_values vs) (length h))
+array_count : (vs : Values) (h e rest : List ℕ) → ArrayHead (count_values vs) h → read_array ((h ++ e) ++ rest) ≡ Some (counted (count_values vs) (length h))
 unfolding count_at
 array_count vs h e rest x = rw (array_head_lem vs h e rest x)
 
-map_count : (ps : Pairs) (h e rest : List ℕ) → MapHead (count_pairs ps) h → read_map ((h ++ e) ++ rest) ≡ some (counted (count_pairs ps) (length h))
+map_count : (ps : Pairs) (h e rest : List ℕ) → MapHead (count_pairs ps) h → read_map ((h ++ e) ++ rest) ≡ Some (counted (count_pairs ps) (length h))
 unfolding count_at
 map_count ps h e rest x = rw (map_head_lem ps h e rest x)
 
@@ -158,11 +158,11 @@ whole_of kind s some_kind holds_none e =
     record { of_kind = w.of_kind; scalar_front = record { some_kind = rw w.of_kind some_kind; holds_none = rw w.of_kind holds_none; fits = w.inside } }
 
 -- what a test that holds leads to
-told : {A : Type 0} {B : Type 0} (t : Bool) (x : A) (y : A) → cond t (some x) nothing ≡ some y → (t ≡ true → x ≡ y → B) → B
+told : {A : Type 0} {B : Type 0} (t : Bool) (x : A) (y : A) → cond t (Some x) nothing ≡ Some y → (t ≡ true → x ≡ y → B) → B
 told true x y e f = f refl (cc)
 told false x y e f = absurd_numbers (cc)
 
-pub integer_only : (s : List ℕ) (i : Int) → AllBytes s → read_integer s ≡ some i → There s (Integer i)
+pub integer_only : (s : List ℕ) (i : Int) → AllBytes s → read_integer s ≡ Some i → There s (Integer i)
 unfolding read_integer scalar_of
 integer_only s i bytes e = told _ _ i e λ t q.
     let w = whole_of integer_kind s (omega arith) (omega arith) t in
@@ -170,19 +170,19 @@ integer_only s i bytes e = told _ _ i e λ t q.
     let size : length (content_of s) ≡ (head_of s).count = content_size s w.scalar_front in
     rw (← q) (rw (w.of_kind, size) at x)
 
-pub boolean_only : (s : List ℕ) (b : Bool) → AllBytes s → read_boolean s ≡ some b → There s (Boolean b)
+pub boolean_only : (s : List ℕ) (b : Bool) → AllBytes s → read_boolean s ≡ Some b → There s (Boolean b)
 unfolding read_boolean scalar_of
 boolean_only s b bytes e = told _ _ b e λ t q.
     let w = whole_of boolean_kind s (omega arith) (omega arith) t in
     rw (← q) (rw w.of_kind at (scalar_there s bytes w.scalar_front))
 
-pub text_only : (s : List ℕ) (p : Part) → AllBytes s → read_text s ≡ some p → There s (Text (content s p))
+pub text_only : (s : List ℕ) (p : Part) → AllBytes s → read_text s ≡ Some p → There s (Text (content s p))
 unfolding content_at scalar_of
 text_only s p bytes e = told _ _ p e λ t q.
     let w = whole_of text_kind s (omega arith) (omega arith) t in
     rw (← q) (rw w.of_kind at (scalar_there s bytes w.scalar_front))
 
-pub binary_only : (s : List ℕ) (p : Part) → AllBytes s → read_binary s ≡ some p → There s (Binary (content s p))
+pub binary_only : (s : List ℕ) (p : Part) → AllBytes s → read_binary s ≡ Some p → There s (Binary (content s p))
 unfolding content_at scalar_of
 binary_only s p bytes e = told _ _ p e λ t q.
     let w = whole_of binary_kind s (omega arith) (omega arith) t in
@@ -201,10 +201,10 @@ front_map s h (scalar_item kind size count l x) k = absurd (omega arith)
 front_map s h (array_item size count l x) k = absurd (omega arith)
 front_map s h (map_item_lem size count l x) k = (l, x)
 
-pub array_only : (s : List ℕ) (c : Counted) → AllBytes s → read_array s ≡ some c → (c.size ≤ length s) × ArrayHead c.count (take c.size s)
+pub array_only : (s : List ℕ) (c : Counted) → AllBytes s → read_array s ≡ Some c → (c.size ≤ length s) × ArrayHead c.count (take c.size s)
 unfolding count_at
 array_only s c bytes e = told _ _ c e λ t q. rw (← q) (front_array s (head_of s) (front_read s bytes) (eqb-true _ _ t))
 
-pub map_only : (s : List ℕ) (c : Counted) → AllBytes s → read_map s ≡ some c → (c.size ≤ length s) × MapHead c.count (take c.size s)
+pub map_only : (s : List ℕ) (c : Counted) → AllBytes s → read_map s ≡ Some c → (c.size ≤ length s) × MapHead c.count (take c.size s)
 unfolding count_at
 map_only s c bytes e = told _ _ c e λ t q. rw (← q) (front_map s (head_of s) (front_read s bytes) (eqb-true _ _ t))

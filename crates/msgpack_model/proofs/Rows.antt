@@ -1,6 +1,6 @@
 -- What a head says of the bytes at the front, row by row of the table: a scalar, the head of an array or map, or no item.
 use Rattle.std.specs.Prelude.{ℕ, zero, suc, ◌+◌, ◌-◌, ◌^◌, ◌≤◌, ◌<◌, Bool, true, false, List, [], ◌∷◌, ◌++◌, ◌≡◌, refl, leb, length, take, drop}
-use Rattle.std.proofs.Math.Option.{Option, none, some}
+use Rattle.std.specs.Prelude.{Option, None, Some}
 use Rattle.std.proofs.Common.{sym, add-zero, le_of_suc-le-suc, not-suc-le-zero, arith, leb-true, leb-false, length-drop, take-add, length-take-le}
 use Rattle.slices.specs.Bytes.{AllBytes, tail_bytes, take_bytes, drop_bytes}
 use Rattle.endian.specs.Numbers.{little, big, big_lt}
@@ -25,8 +25,8 @@ unfolding head_of
 read_front b kind w amount t form make = rw form (by (number_at big (b ∷ t) 1 w) refl)
   where
     by : (r : Option ℕ) → number_at big (b ∷ t) 1 w ≡ r → Front (b ∷ t) (head_by (format kind w amount) r)
-    by (some n) e = make n (number_read big (b ∷ t) 1 w n e)
-    by none e = no_item no_head refl
+    by (Some n) e = make n (number_read big (b ∷ t) 1 w n e)
+    by None e = no_item no_head refl
 
 the_number : (b w n : ℕ) (t : List ℕ) → AllBytes t → NumberRead big (b ∷ t) 1 w n → Number w n (take w t)
 the_number b w n t bytes r = record { size = length-take-le w t (omega (arith, r.within.inside)); bytes = take_bytes w t bytes; is = sym r.is }

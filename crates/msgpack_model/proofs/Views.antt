@@ -1,7 +1,7 @@
 -- The view of values, and that bytes are seen as the value which they encode.
 use Rattle.std.specs.Prelude.{ℕ, suc, ◌≤◌, Bool, true, false, cond, List, [], ◌∷◌, ◌++◌, ◌≡◌, refl, drop}
 use Rattle.std.proofs.Common.{append_assoc, ap, ◌∙◌, arith}
-use Rattle.std.proofs.Math.Option.{Option, some, none as nothing}
+use Rattle.std.specs.Prelude.{Option, Some, None as nothing}
 use Rattle.std.proofs.Math.Seq.{drop-append_seam}
 use Rattle.slices.specs.Logic.{absurd_numbers}
 use Rattle.msgpack.specs.Items.{pass_item, depth_allowed}
@@ -20,26 +20,26 @@ use Rattle.msgpack_model.specs.Views.{list_of, found_by, under_in, value_view, S
 
 -- ---- what a container holds stands less deep
 
-array_depth : {v : Value} {e : List ℕ} → Encodes v e → (vs : Values) → as_array v ≡ some vs → depth v ≡ suc (values_depth vs)
+array_depth : {v : Value} {e : List ℕ} → Encodes v e → (vs : Values) → as_array v ≡ Some vs → depth v ≡ suc (values_depth vs)
 array_depth (scalar x) vs q = absurd_numbers (cc (scalar_no_array x))
 array_depth (array {vs = ws} x xs) vs q = let is : ws ≡ vs = cc in rw is
 array_depth (map x xs) vs q = absurd_numbers (cc)
 
-map_depth : {v : Value} {e : List ℕ} → Encodes v e → (ps : Pairs) → as_map v ≡ some ps → depth v ≡ suc (pairs_depth ps)
+map_depth : {v : Value} {e : List ℕ} → Encodes v e → (ps : Pairs) → as_map v ≡ Some ps → depth v ≡ suc (pairs_depth ps)
 map_depth (scalar x) ps q = absurd_numbers (cc (scalar_no_map x))
 map_depth (array x xs) ps q = absurd_numbers (cc)
 map_depth (map {ps = qs} x xs) ps q = let is : qs ≡ ps = cc in rw is
 
 from_depth : (key : List ℕ) (ps : Pairs) (a : ℕ) (best : Option Value) → pairs_depth ps ≤ a
-    → ((v : Value) → best ≡ some v → depth v ≤ a) → (v : Value) → last_from key ps best ≡ some v → depth v ≤ a
+    → ((v : Value) → best ≡ Some v → depth v ≤ a) → (v : Value) → last_from key ps best ≡ Some v → depth v ≤ a
 from_depth key no_pairs a best d known v e = known v e
-from_depth key (pair k w ps) a best d known v e = from_depth key ps a (cond (key_is key k) (some w) best) (omega arith) (newer (key_is key k)) v e
+from_depth key (pair k w ps) a best d known v e = from_depth key ps a (cond (key_is key k) (Some w) best) (omega arith) (newer (key_is key k)) v e
   where
-    newer : (t : Bool) (u : Value) → cond t (some w) best ≡ some u → depth u ≤ a
+    newer : (t : Bool) (u : Value) → cond t (Some w) best ≡ Some u → depth u ≤ a
     newer true u q = let is : w ≡ u = cc in rw (← is) (omega arith)
     newer false u q = known u q
 
-lookup_depth : (key : List ℕ) (ps : Pairs) (v : Value) → last_in key ps ≡ some v → depth v ≤ pairs_depth ps
+lookup_depth : (key : List ℕ) (ps : Pairs) (v : Value) → last_in key ps ≡ Some v → depth v ≤ pairs_depth ps
 lookup_depth key ps v e = from_depth key ps (pairs_depth ps) nothing (omega arith) (λ u q. absurd_numbers (cc)) v e
 
 -- ---- every encoding is seen so
@@ -58,7 +58,7 @@ each_item (next {v = v} {e = e} {f = f} x xs) d s rest h =
 items_alike : {s : List ℕ} {v : Value} → Shows s v → Both (Each Shows) (byte_view.items s) (value_view.items v)
 items_alike {s} {v} x = rw x.is (by (as_array v) (array_depth x.encodes) (array_reads x.encodes x.rest))
   where
-    by : {c : Option Counted} (o : Option Values) → ((vs : Values) → o ≡ some vs → depth v ≡ suc (values_depth vs))
+    by : {c : Option Counted} (o : Option Values) → ((vs : Values) → o ≡ Some vs → depth v ≡ suc (values_depth vs))
         → ArrayRead (x.front ++ x.rest) x.rest c o
         → Both (Each Shows) (items_by (x.front ++ x.rest) c) (over list_of o)
     by o inner (is_array {vs = vs} l k ys) = both (each_item ys (omega (arith, inner vs refl, x.shallow)) _ x.rest k)
@@ -67,14 +67,14 @@ items_alike {s} {v} x = rw x.is (by (as_array v) (array_depth x.encodes) (array_
 under_alike : (key : List ℕ) {s : List ℕ} {v : Value} → Shows s v → SameUnder Shows (byte_view.under key s) (value_view.under key v)
 under_alike key {s} {v} x = rw x.is (by (as_map v) (map_depth x.encodes) (last_value_lem key x.encodes x.shallow x.rest))
   where
-    at : (place : Under ℕ) (o : Option Value) → ((w : Value) → o ≡ some w → depth w ≤ depth_allowed) → FoundAt (x.front ++ x.rest) place o
+    at : (place : Under ℕ) (o : Option Value) → ((w : Value) → o ≡ Some w → depth w ≤ depth_allowed) → FoundAt (x.front ++ x.rest) place o
         → SameUnder Shows (front_of (x.front ++ x.rest) place) (found_by o)
     at place o less (value_there {v = w} {f = f} q h y) = both_found (record { front = f; rest = q; is = h; encodes = y; shallow = less w refl })
     at place o less none_there = both_missing
 
-    by : (o : Option Pairs) → ((ps : Pairs) → o ≡ some ps → depth v ≡ suc (pairs_depth ps)) → MapLookup key (x.front ++ x.rest) o
+    by : (o : Option Pairs) → ((ps : Pairs) → o ≡ Some ps → depth v ≡ suc (pairs_depth ps)) → MapLookup key (x.front ++ x.rest) o
         → SameUnder Shows (front_of (x.front ++ x.rest) (last_value key (x.front ++ x.rest))) (under_in key o)
-    by (some ps) inner (in_map y) = at _ (last_in key ps) (λ w q. omega (arith, lookup_depth key ps w q, inner ps refl, x.shallow)) y
+    by (Some ps) inner (in_map y) = at _ (last_in key ps) (λ w q. omega (arith, lookup_depth key ps w q, inner ps refl, x.shallow)) y
     by nothing inner (not_map y) = rw y both_broken
 
 pub bytes_alike : SeenAlike byte_view value_view Shows

@@ -1,6 +1,6 @@
 -- The head of every encoding is what the table of formats says of its first byte, whatever follows; so a scalar's kind and content are known from its bytes.
 use Rattle.std.specs.Prelude.{ℕ, zero, suc, ◌+◌, ◌-◌, ◌^◌, ◌≤◌, ◌<◌, true, false, cond, List, [], ◌∷◌, ◌++◌, ◌≡◌, refl, eqb, length, get_or, drop}
-use Rattle.std.proofs.Math.Option.{some}
+use Rattle.std.specs.Prelude.{Some}
 use Rattle.std.proofs.Common.{ap, ◌∙◌, pow-suc, not-suc-le-zero, arith, lt-ltb, le-ltb, length-append, take_at}
 use Rattle.slices.specs.Tables.{agree}
 use Rattle.endian.specs.Numbers.{little, big}
@@ -42,7 +42,7 @@ begins : (b kind w amount n : ℕ) (h : List ℕ) → format_of b ≡ format kin
 unfolding head_of
 begins b kind w amount n h form narrow size is rest =
     let there = number_there big (b ∷ (h ++ rest)) 1 w (record { narrow = narrow; inside = omega (arith, length-append h rest) }) in
-    let number : number_at big (b ∷ (h ++ rest)) 1 w ≡ some (big h) = there ∙ rw (take_at h rest w size) in
+    let number : number_at big (b ∷ (h ++ rest)) 1 w ≡ Some (big h) = there ∙ rw (take_at h rest w size) in
     let long : 1 + w ≡ suc (length h) = omega arith in
     rw (form, number, is, long)
 

@@ -2,7 +2,7 @@
 -- order of pairs plays no part.
 use Rattle.std.specs.Prelude.{ℕ, ◌+◌, ◌≤◌, Bool, true, false, cond, ◌≡◌, refl}
 use mathlib.Core.List.{List, ◌++◌}
-use Rattle.std.proofs.Math.Option.{Option, some, none as nothing}
+use Rattle.std.specs.Prelude.{Option, Some, None as nothing}
 use Rattle.std.proofs.Math.Path.{ap}
 use Rattle.std.proofs.Common.{◌∙◌, arith}
 use Rattle.std.proofs.Math.ListN.{drop}
@@ -14,7 +14,7 @@ use Rattle.msgpack_model.specs.Encoding.{Encodes}
 -- ---- the lookup in values
 
 abbrev pub is_text : List ℕ → Option (List ℕ) → Bool
-is_text key (some e) = same_bytes e key
+is_text key (Some e) = same_bytes e key
 is_text key nothing = false
 
 -- whether a key is that text
@@ -24,7 +24,7 @@ key_is key v = is_text key (as_text v)
 -- the last value whose key is that text; `best` where there is none
 abbrev pub last_from : List ℕ → Pairs → Option Value → Option Value
 last_from key no_pairs best = best
-last_from key (pair k v ps) best = last_from key ps (cond (key_is key k) (some v) best)
+last_from key (pair k v ps) best = last_from key ps (cond (key_is key k) (Some v) best)
 
 abbrev pub last_in : List ℕ → Pairs → Option Value
 last_in key ps = last_from key ps nothing
@@ -33,13 +33,13 @@ last_in key ps = last_from key ps nothing
 
 -- at this place of the list stands an encoding of that value; or there is none
 pub data FoundAt (s : List ℕ) : ValuePlace → Option Value → Type 0 where
-  value_there : {p : ℕ} {v : Value} {f : List ℕ} (q : List ℕ) → drop p s ≡ f ++ q → Encodes v f → FoundAt s (found p) (some v)
+  value_there : {p : ℕ} {v : Value} {f : List ℕ} (q : List ℕ) → drop p s ≡ f ++ q → Encodes v f → FoundAt s (found p) (Some v)
   none_there : FoundAt s missing nothing
 
 -- ---- the last value in the map at the front
 
 pub data MapLookup (key s : List ℕ) : Option Pairs → Type 0 where
-  in_map : {ps : Pairs} → FoundAt s (last_value key s) (last_in key ps) → MapLookup key s (some ps)
+  in_map : {ps : Pairs} → FoundAt s (last_value key s) (last_in key ps) → MapLookup key s (Some ps)
   not_map : last_value key s ≡ broken → MapLookup key s nothing
 
 -- ---- how often a key stands in a map
@@ -51,7 +51,7 @@ times_key key (pair k v ps) = cond (key_is key k) 1 0 + times_key key ps
 
 -- 0 where there is no map
 abbrev pub times_in : List ℕ → Option Pairs → ℕ
-times_in key (some ps) = times_key key ps
+times_in key (Some ps) = times_key key ps
 times_in key nothing = 0
 
 -- ---- the order of pairs
@@ -78,8 +78,8 @@ module _ (key : List ℕ) where
 
   reordered_from : {ps qs : Pairs} → Reordered ps qs → times_key key ps ≤ 1 → (best : Option Value) → last_from key ps best ≡ last_from key qs best
   reordered_from (same_order ps) h best = refl
-  reordered_from (behind {k = k} {v = v} x) h best = reordered_from x (omega arith) (cond (key_is key k) (some v) best)
-  reordered_from (swapped k v l w ps) h best = ap (last_from key ps) (apart (key_is key k) (key_is key l) (some v) (some w) best (omega arith))
+  reordered_from (behind {k = k} {v = v} x) h best = reordered_from x (omega arith) (cond (key_is key k) (Some v) best)
+  reordered_from (swapped k v l w ps) h best = ap (last_from key ps) (apart (key_is key k) (key_is key l) (Some v) (Some w) best (omega arith))
   reordered_from (and_then x y) h best = reordered_from x h best ∙ reordered_from y (omega (arith, as_often x)) best
 
   -- where the key does not repeat, the order plays no part

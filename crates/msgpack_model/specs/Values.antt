@@ -1,6 +1,6 @@
 -- The values of MessagePack.
 use Rattle.std.specs.Prelude.{ℕ, suc, max, Bool, List}
-use Rattle.std.proofs.Math.Option.{Option, none, some}
+use Rattle.std.specs.Prelude.{Option, None, Some}
 use Rattle.msgpack.specs.Readers.{Int}
 
 mutual
@@ -55,67 +55,67 @@ abbrev mutual
 -- ---- what a value is, where it is of that type
 
 abbrev pub as_boolean : Value → Option Bool
-as_boolean Nil = none
-as_boolean (Boolean b) = some b
-as_boolean (Integer i) = none
-as_boolean (Float e) = none
-as_boolean (Text e) = none
-as_boolean (Binary e) = none
-as_boolean (Extension t e) = none
-as_boolean (Array vs) = none
-as_boolean (Map ps) = none
+as_boolean Nil = None
+as_boolean (Boolean b) = Some b
+as_boolean (Integer i) = None
+as_boolean (Float e) = None
+as_boolean (Text e) = None
+as_boolean (Binary e) = None
+as_boolean (Extension t e) = None
+as_boolean (Array vs) = None
+as_boolean (Map ps) = None
 
 abbrev pub as_integer : Value → Option Int
-as_integer Nil = none
-as_integer (Boolean b) = none
-as_integer (Integer i) = some i
-as_integer (Float e) = none
-as_integer (Text e) = none
-as_integer (Binary e) = none
-as_integer (Extension t e) = none
-as_integer (Array vs) = none
-as_integer (Map ps) = none
+as_integer Nil = None
+as_integer (Boolean b) = None
+as_integer (Integer i) = Some i
+as_integer (Float e) = None
+as_integer (Text e) = None
+as_integer (Binary e) = None
+as_integer (Extension t e) = None
+as_integer (Array vs) = None
+as_integer (Map ps) = None
 
 abbrev pub as_text : Value → Option (List ℕ)
-as_text Nil = none
-as_text (Boolean b) = none
-as_text (Integer i) = none
-as_text (Float e) = none
-as_text (Text e) = some e
-as_text (Binary e) = none
-as_text (Extension t e) = none
-as_text (Array vs) = none
-as_text (Map ps) = none
+as_text Nil = None
+as_text (Boolean b) = None
+as_text (Integer i) = None
+as_text (Float e) = None
+as_text (Text e) = Some e
+as_text (Binary e) = None
+as_text (Extension t e) = None
+as_text (Array vs) = None
+as_text (Map ps) = None
 
 abbrev pub as_binary : Value → Option (List ℕ)
-as_binary Nil = none
-as_binary (Boolean b) = none
-as_binary (Integer i) = none
-as_binary (Float e) = none
-as_binary (Text e) = none
-as_binary (Binary e) = some e
-as_binary (Extension t e) = none
-as_binary (Array vs) = none
-as_binary (Map ps) = none
+as_binary Nil = None
+as_binary (Boolean b) = None
+as_binary (Integer i) = None
+as_binary (Float e) = None
+as_binary (Text e) = None
+as_binary (Binary e) = Some e
+as_binary (Extension t e) = None
+as_binary (Array vs) = None
+as_binary (Map ps) = None
 
 abbrev pub as_array : Value → Option Values
-as_array Nil = none
-as_array (Boolean b) = none
-as_array (Integer i) = none
-as_array (Float e) = none
-as_array (Text e) = none
-as_array (Binary e) = none
-as_array (Extension t e) = none
-as_array (Array vs) = some vs
-as_array (Map ps) = none
+as_array Nil = None
+as_array (Boolean b) = None
+as_array (Integer i) = None
+as_array (Float e) = None
+as_array (Text e) = None
+as_array (Binary e) = None
+as_array (Extension t e) = None
+as_array (Array vs) = Some vs
+as_array (Map ps) = None
 
 abbrev pub as_map : Value → Option Pairs
-as_map Nil = none
-as_map (Boolean b) = none
-as_map (Integer i) = none
-as_map (Float e) = none
-as_map (Text e) = none
-as_map (Binary e) = none
-as_map (Extension t e) = none
-as_map (Array vs) = none
-as_map (Map ps) = some ps
+as_map Nil = None
+as_map (Boolean b) = None
+as_map (Integer i) = None
+as_map (Float e) = None
+as_map (Text e) = None
+as_map (Binary e) = None
+as_map (Extension t e) = None
+as_map (Array vs) = None
+as_map (Map ps) = Some ps

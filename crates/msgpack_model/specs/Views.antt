@@ -1,7 +1,7 @@
 -- The view of values, and that bytes are seen as the value which they encode.
 use Rattle.std.specs.Prelude.{ℕ, ◌≤◌, List, [], ◌∷◌, ◌++◌, ◌≡◌}
 use Rattle.std.proofs.Common.{append-nil, sym}
-use Rattle.std.proofs.Math.Option.{Option, some, none as nothing}
+use Rattle.std.specs.Prelude.{Option, Some, None as nothing}
 use Rattle.msgpack.specs.Items.{depth_allowed}
 use Rattle.msgpack.specs.Lookup.{Under, found, missing, broken, over}
 use Rattle.msgpack.specs.Views.{View}
@@ -16,11 +16,11 @@ list_of no_values_lem = []
 list_of (value v vs) = v ∷ list_of vs
 
 abbrev pub found_by : Option Value → Under Value
-found_by (some v) = found v
+found_by (Some v) = found v
 found_by nothing = missing
 
 abbrev pub under_in : List ℕ → Option Pairs → Under Value
-under_in key (some ps) = found_by (last_in key ps)
+under_in key (Some ps) = found_by (last_in key ps)
 under_in key nothing = broken
 
 abbrev pub value_view : View Value

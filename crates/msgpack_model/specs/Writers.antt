@@ -1,6 +1,6 @@
 -- What the writers write are encodings; none is shorter; and each reads back.
 use Rattle.std.specs.Prelude.{ℕ, suc, ◌+◌, ◌^◌, ◌≤◌, ◌<◌, Bool, true, false, cond, List, [], ◌∷◌, ◌++◌, ◌≡◌, refl, ltb, length}
-use Rattle.std.proofs.Math.Option.{some}
+use Rattle.std.specs.Prelude.{Some}
 use Rattle.std.proofs.Common.{ap, ◌∙◌, mod-eq_of_lt, arith, ltb-true, ltb-false, length-append}
 use Rattle.slices.specs.Bytes.{AllBytes}
 use Rattle.endian.specs.Numbers.{little_bytes, big_lt, big_bytes, length_big_bytes, big_bytes_bytes, big_of_bytes}
@@ -191,6 +191,6 @@ unsigned_shortest (scalar (int64 (non_negative {n = n} x l))) = as_long (unsigne
 
 -- ---- each reads back, whatever follows
 
-pub map_reads_back : (n : ℕ) → n < 2 ^ 32 → (rest : List ℕ) → read_map (map_head n ++ rest) ≡ some (counted n (length (map_head n)))
+pub map_reads_back : (n : ℕ) → n < 2 ^ 32 → (rest : List ℕ) → read_map (map_head n ++ rest) ≡ Some (counted n (length (map_head n)))
 unfolding count_at
 map_reads_back n h rest = rw (map_begins (map_head_lem n h) rest)

@@ -1,11 +1,12 @@
 -- A pack: its records in order, up to its end or the first fault.
 use Rattle.std.specs.Prelude.{ℕ, zero, suc, ◌+◌, cond, List, [], ◌∷◌, map, ◌≡◌, refl, ltb, length, drop}
+use Rattle.std.specs.Prelude.{Result, Ok, Err}
 use Rattle.std.proofs.Common.{ap, ◌∙◌, add-zero, arith, drop-drop}
 use Rattle.std.proofs.Math.Path.{fun_ext}
 use Rattle.tlv.specs.Found.{Found, end, found, fault, step, step_none, number_of}
 use Rattle.tlv.specs.declared.RecordHeader.{RecordHeader}
 use Rattle.pack.specs.declared.Entry.{Entry}
-use Rattle.pack.specs.declared.Checked.{Checked}
+use Rattle.pack.specs.declared.Fault.{Fault}
 
 -- how a reading ends: at the end of the pack, or with a refusal's number and place
 pub data Ending : Type 0 where
@@ -65,10 +66,18 @@ pub data Outcome : Type 0 where
   refused : (number place : ℕ) → Outcome
   alone : ℕ → Outcome
 
-abbrev pub outcome_of : Checked → Outcome
-outcome_of (Checked.Records n) = counted n
-outcome_of Checked.TooLong = refused 1 0
-outcome_of (Checked.Fault f at) = refused (number_of f) at
+-- the number and the place of a refusal; that of a pack that is too long is 0
+abbrev pub fault_number : Fault → ℕ
+fault_number Fault.TooLong = 1
+fault_number (Fault.Record f at) = number_of f
+
+abbrev pub fault_place : Fault → ℕ
+fault_place Fault.TooLong = 0
+fault_place (Fault.Record f at) = at
+
+abbrev pub outcome_of : Result ℕ Fault → Outcome
+outcome_of (Ok n) = counted n
+outcome_of (Err f) = refused (fault_number f) (fault_place f)
 
 abbrev pub outcome : Reading → Outcome
 outcome r = elim r.ending [ whole ↦ counted (length r.entries) | refused n at ↦ refused n at ]

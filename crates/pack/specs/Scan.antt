@@ -1,25 +1,25 @@
 -- The scan: how it ends, and what the lent list holds afterwards.
 use Rattle.std.specs.Prelude.{ℕ, zero, suc, ◌+◌, Bool, true, false, cond, List, [], ◌∷◌, ◌++◌, ◌≡◌, refl, leb, length, get_or, drop}
+use Rattle.std.specs.Prelude.{Result, Ok, Err}
 use Rattle.std.proofs.Common.{sym, ap, ◌∙◌, arith}
 use Rattle.slices.specs.Logic.{absurd_numbers}
-use Rattle.tlv.specs.Found.{Found, end, found, fault, step, number_of}
+use Rattle.tlv.specs.Found.{Found, end, found, fault, step}
 use Rattle.tlv.specs.Passing.{pass_at, pass_found}
 use Rattle.tlv.specs.declared.RecordHeader.{RecordHeader}
 use Rattle.pack.specs.declared.Entry.{Entry}
 use Rattle.pack.specs.declared.Listed.{Listed}
-use Rattle.pack.specs.declared.Scanned.{Scanned}
-use Rattle.pack.specs.Reading.{Reading, Ending, whole, refused, records, Outcome, counted, alone, outcome, entry_at, records_end, records_fault, records_on}
+use Rattle.pack.specs.declared.ScanFault.{ScanFault}
+use Rattle.pack.specs.Reading.{Reading, Ending, whole, refused, records, Outcome, counted, alone, outcome, fault_number, fault_place, entry_at, records_end, records_fault, records_on}
 
 -- stands for an entry where there is none
 abbrev pub no_entry : Entry
 no_entry = record { start = 0; tag = 0; length = 0; hash = 0 }
 
 -- what each answer of the code says
-abbrev pub scanned_of : Scanned → Outcome
-scanned_of (Scanned.Filled n) = counted n
-scanned_of Scanned.TooLong = refused 1 0
-scanned_of (Scanned.Fault f at) = refused (number_of f) at
-scanned_of Scanned.Short = alone 19
+abbrev pub scanned_of : Result ℕ ScanFault → Outcome
+scanned_of (Ok n) = counted n
+scanned_of (Err (ScanFault.Pack f)) = refused (fault_number f) (fault_place f)
+scanned_of (Err ScanFault.NoRoom) = alone 19
 
 -- an outcome, with a list of so many entries lent: 19 comes after all others
 abbrev pub fitted : Outcome → ℕ → Outcome

@@ -5,7 +5,7 @@ use Rattle.std.proofs.Math.Bool.{true, false}
 use mathlib.Core.List.Memᴰ
 use mathlib.Core.List.{List, [], ◌∷◌, Memᴰ}
 use Rattle.std.proofs.Common.{⊎_elim, sym, ap, subst, ◌∙◌, arith, eq-eqb, ne_eqb, drop-drop}
-use Rattle.std.proofs.Math.Option.{Option, none, some}
+use Rattle.std.specs.Prelude.{Option, None, Some}
 use Rattle.std.proofs.Math.Path.{refl}
 use Rattle.std.proofs.Math.Dec.{eqb}
 use Rattle.tlv.specs.Found.{Found, end, found, fault, step, header_of}
@@ -13,14 +13,13 @@ use Rattle.tlv.specs.Stands.{step_stands}
 use Rattle.tlv.specs.declared.RecordHeader.{RecordHeader}
 use Rattle.xxh64.specs.Xxh64.{xxh64}
 use Rattle.pack.specs.declared.Entry.{Entry}
-use Rattle.pack.specs.declared.Match.{Match}
 use Rattle.pack.specs.Reading.{Reading, refused, next, records, reading, entry_at}
 use Rattle.pack.specs.Scan.{no_entry}
 
 -- the first of the places from `at` on, so many of them, at which f is n
 unfoldable pub first : (ℕ → ℕ) → ℕ → ℕ → ℕ → Option ℕ
-first f n at zero = none
-first f n at (suc k) = cond (eqb (f at) n) (some at) (first f n (suc at) k)
+first f n at zero = None
+first f n at (suc k) = cond (eqb (f at) n) (Some at) (first f n (suc at) k)
 
 abbrev pub hash_at : List Entry → ℕ → ℕ
 hash_at es k = (get_or es k no_entry).hash
@@ -28,11 +27,6 @@ hash_at es k = (get_or es k no_entry).hash
 -- the place of the first entry with the hash n, from 0
 abbrev pub first_with : ℕ → List Entry → Option ℕ
 first_with n es = first (hash_at es) n 0 (length es)
-
--- what each answer of the code says
-abbrev pub match_of : Match → Option ℕ
-match_of (Match.At k) = some k
-match_of Match.Nothing = none
 
 -- ---- what the answers mean, without a search, over any f and count: the place has n and none before it does; or none has
 
@@ -46,7 +40,7 @@ Absent f n count = (j : ℕ) → j < count → f j ≡ n → ⊥
 
 -- ---- a search that has come to the place i
 
-pub first_here : (f : ℕ → ℕ) (n count i : ℕ) → i < count → f i ≡ n → first f n i (count - i) ≡ some i
+pub first_here : (f : ℕ → ℕ) (n count i : ℕ) → i < count → f i ≡ n → first f n i (count - i) ≡ Some i
 unfolding first
 first_here f n count i l e =
     let k : count - i ≡ suc (count - suc i) = omega arith in
@@ -58,7 +52,7 @@ first_later f n count i l e =
     let k : count - i ≡ suc (count - suc i) = omega arith in
     rw (k, ne_eqb (f i) n e)
 
-pub first_nowhere : (f : ℕ → ℕ) (n count i : ℕ) → count ≤ i → first f n i (count - i) ≡ none
+pub first_nowhere : (f : ℕ → ℕ) (n count i : ℕ) → count ≤ i → first f n i (count - i) ≡ None
 unfolding first
 first_nowhere f n count i l =
     let k : count - i ≡ 0 = omega arith in

@@ -1,12 +1,13 @@
 -- The walker: what a call answers at any place, and that successive calls answer the records of the reading, and then its ending for ever.
 use Prim.Native.Nat.{ℕ, zero, suc, ◌+◌, ◌≤◌, ◌<◌}
 use Rattle.std.specs.Prelude.{cond, List, [], ◌∷◌, ◌≡◌, ltb, length, drop}
+use Rattle.std.specs.Prelude.{Option, Some, None, Result, Ok, Err}
 use Rattle.std.proofs.Common.{lt-ltb, le-ltb}
-use Rattle.tlv.specs.Found.{Found, end, found, fault, step, number_of}
+use Rattle.tlv.specs.Found.{Found, end, found, fault, step}
 use Rattle.pack.specs.declared.Entry.{Entry}
-use Rattle.pack.specs.declared.Walked.{Walked}
+use Rattle.pack.specs.declared.Fault.{Fault}
 use Rattle.pack.specs.declared.Turn.{Turn}
-use Rattle.pack.specs.Reading.{Reading, Ending, whole, refused, entry_at}
+use Rattle.pack.specs.Reading.{Reading, Ending, whole, refused, fault_number, fault_place, entry_at}
 
 pub data Yield : Type 0 where
   entry : Entry → Yield
@@ -14,11 +15,10 @@ pub data Yield : Type 0 where
   refusal : (number place : ℕ) → Yield
 
 -- what each answer of the code says
-abbrev pub yield_of : Walked → Yield
-yield_of (Walked.Record e) = entry e
-yield_of Walked.End = ended
-yield_of Walked.TooLong = refusal 1 0
-yield_of (Walked.Fault f at) = refusal (number_of f) at
+abbrev pub yield_of : Result (Option Entry) Fault → Yield
+yield_of (Ok (Some e)) = entry e
+yield_of (Ok None) = ended
+yield_of (Err f) = refusal (fault_number f) (fault_place f)
 
 -- a call: its answer, and the place at which it leaves the walker
 pub record Call : Type 0 where

@@ -3,12 +3,13 @@
 
 ghost use Rattle.std.specs.Prelude.{◌≡◌, ◌≤◌, ◌++◌, length, drop};
 ghost use Rattle.refusals.specs.Limit.{pack_limit};
-ghost use Rattle.pack.specs.Reading.{reading, outcome, outcome_of};
-ghost use Rattle.pack.specs.Scan.{scanned_of, fitted, scanned, written, listed_at, first_entries, list_after};
-ghost use Rattle.pack.specs.Search.{match_of, first_with};
+ghost use Rattle.pack.specs.declared.ScanFault.TheVariants.{Pack};
+ghost use Rattle.pack.specs.Reading.{reading, entry_at, outcome, outcome_of, fault_number, fault_place};
+ghost use Rattle.pack.specs.Scan.{scanned_of, scanned, listed_at, first_entries, list_after};
+ghost use Rattle.pack.specs.Search.{first_with};
 ghost use Rattle.pack.specs.Walk.{yield_of, call_of, turn_at, nth_yield};
 
-use tlv::{Fault, RecordHeader, Step};
+use tlv::RecordHeader;
 
 // A record of a pack: where it starts, its tag, and its value's length and hash.
 #[derive(Clone, Copy)]
@@ -19,27 +20,61 @@ pub struct Entry {
     pub hash: u64,
 }
 
-// How many records a pack has, or the refusal.
-#[derive(Clone, Copy)]
-pub enum Checked {
-    Records(usize),
-    TooLong,
-    Fault(Fault, usize),
+// The entry of the record with this header at a place.
+fn entry_at(at: usize, header: RecordHeader) -> Entry
+    ensures { result ≡ entry_at at header }
+{
+    Entry {
+        start: at,
+        tag: header.tag,
+        length: header.length,
+        hash: header.hash,
+    }
 }
 
-pub fn check(pack: &[u8]) -> Checked
+// Why a pack is refused: it is longer than the limit, or what stands at a place is no record.
+#[derive(Clone, Copy)]
+pub enum Fault {
+    TooLong,
+    Record(tlv::Fault, usize),
+}
+
+impl From<Fault> for u8 {
+    ghost from_gives = { λ f n. n ≡ fault_number f };
+
+    fn from(f: Fault) -> u8 {
+        match f {
+            Fault::TooLong => 1,
+            Fault::Record(f, _) => u8::from(f),
+        }
+    }
+}
+
+impl Fault {
+    pub fn place(self) -> usize
+        ensures { result ≡ fault_place self }
+    {
+        match self {
+            Fault::TooLong => 0,
+            Fault::Record(_, at) => at,
+        }
+    }
+}
+
+// How many records a pack has.
+pub fn check(pack: &[u8]) -> Result<usize, Fault>
     ensures { outcome_of result ≡ outcome (reading pack_limit pack.now) }
 {
     if RecordHeader::LIMIT < pack.len() {
-        return Checked::TooLong;
+        return Err(Fault::TooLong);
     }
     let mut at: usize = 0;
     let mut count: usize = 0;
     loop {
         match tlv::step_at(pack, at) {
-            Step::End => return Checked::Records(count),
-            Step::Fault(f) => return Checked::Fault(f, at),
-            Step::Record(h) => {
+            Ok(None) => return Ok(count),
+            Err(f) => return Err(Fault::Record(f, at)),
+            Ok(Some(h)) => {
                 at = at + RecordHeader::LENGTH + h.length as usize;
                 count += 1;
             }
@@ -49,41 +84,18 @@ pub fn check(pack: &[u8]) -> Checked
 
 // ---- the scan, which fills a lent list
 
-// How many entries were filled in, or the refusal. The list is too short: refusal 19.
+// Why none was filled in. NoRoom: the list is too short, refusal 19.
 #[derive(Clone, Copy)]
-pub enum Scanned {
-    Filled(usize),
-    TooLong,
-    Fault(Fault, usize),
-    Short,
+pub enum ScanFault {
+    Pack(Fault),
+    NoRoom,
 }
 
-// How a scan into a list of so many entries ends.
-fn fit(checked: Checked, room: usize) -> Scanned
-    ensures { scanned_of result ≡ fitted (outcome_of checked) room }
-{
-    match checked {
-        Checked::Records(n) => {
-            if n <= room {
-                Scanned::Filled(n)
-            } else {
-                Scanned::Short
-            }
-        }
-        Checked::TooLong => Scanned::TooLong,
-        Checked::Fault(f, at) => Scanned::Fault(f, at),
-    }
-}
+impl From<Fault> for ScanFault {
+    ghost from_gives = { λ f s. s ≡ Pack f };
 
-// How many entries it fills in: none on a refusal.
-fn to_write(s: Scanned) -> usize
-    ensures { result ≡ written (scanned_of s) }
-{
-    match s {
-        Scanned::Filled(n) => n,
-        Scanned::TooLong => 0,
-        Scanned::Fault(_, _) => 0,
-        Scanned::Short => 0,
+    fn from(f: Fault) -> ScanFault {
+        ScanFault::Pack(f)
     }
 }
 
@@ -98,14 +110,8 @@ fn listed_at(pack: &[u8], at: usize) -> Listed
     ensures { result ≡ listed_at pack.now at }
 {
     let passed = tlv::pass_at(pack, at);
-    let header = passed.header;
     Listed {
-        entry: Entry {
-            start: at,
-            tag: header.tag,
-            length: header.length,
-            hash: header.hash,
-        },
+        entry: entry_at(at, passed.header),
         next: passed.next,
     }
 }
@@ -115,49 +121,35 @@ fn fill(pack: &[u8], list: &mut [Entry], n: usize)
     requires { n ≤ length list.old }
     ensures { list.new ≡ first_entries n pack.now 0 ++ drop n list.old }
 {
-    let mut i = 0;
     let mut at = 0;
-    while i < n {
+    for i in 0..n {
         let listed = listed_at(pack, at);
         list[i] = listed.entry;
         at = listed.next;
-        i += 1;
     }
 }
 
-// One entry a record, in order; entries after those keep their content, and on a refusal all do.
-pub fn scan(pack: &[u8], list: &mut [Entry]) -> Scanned
+// One entry a record, in order, and how many; entries after those keep their content, and on a
+// refusal all do.
+pub fn scan(pack: &[u8], list: &mut [Entry]) -> Result<usize, ScanFault>
     ensures { (scanned_of result ≡ scanned (reading pack_limit pack.now) (length list.old))
         × (list.new ≡ list_after (reading pack_limit pack.now) list.old) }
 {
-    let r = fit(check(pack), list.len());
-    let n = to_write(r);
+    let n = check(pack)?;
+    if list.len() < n {
+        return Err(ScanFault::NoRoom);
+    }
     fill(pack, list, n);
-    r
+    Ok(n)
 }
 
 // ---- the search by a value's hash
 
-// The place in a list of the first entry that is looked for, counted from 0, or that there is none.
-#[derive(Clone, Copy)]
-pub enum Match {
-    At(usize),
-    Nothing,
-}
-
-// The first entry of a list whose value has this hash.
-pub fn find_hash(entries: &[Entry], hash: u64) -> Match
-    ensures { match_of result ≡ first_with hash entries.now }
+// The place in a list of the first entry whose value has this hash, counted from 0.
+pub fn find_hash(entries: &[Entry], hash: u64) -> Option<usize>
+    ensures { result ≡ first_with hash entries.now }
 {
-    let n = entries.len();
-    let mut i = 0;
-    while i < n {
-        if entries[i].hash == hash {
-            return Match::At(i);
-        }
-        i += 1;
-    }
-    Match::Nothing
+    entries.iter().position(|e| e.hash == hash)
 }
 
 // ---- the walker, which yields one record a call
@@ -169,18 +161,10 @@ pub struct Walker<'a> {
     at: usize,
 }
 
-#[derive(Clone, Copy)]
-pub enum Walked {
-    Record(Entry),
-    End,
-    TooLong,
-    Fault(Fault, usize),
-}
-
 // What a call answers, and the place that it leaves the walker at.
 #[derive(Clone, Copy)]
 pub struct Turn {
-    pub walked: Walked,
+    pub walked: Result<Option<Entry>, Fault>,
     pub at: usize,
 }
 
@@ -189,26 +173,21 @@ fn turn_at(pack: &[u8], at: usize) -> Turn
 {
     if RecordHeader::LIMIT < pack.len() {
         return Turn {
-            walked: Walked::TooLong,
+            walked: Err(Fault::TooLong),
             at,
         };
     }
     match tlv::step_at(pack, at) {
-        Step::End => Turn {
-            walked: Walked::End,
+        Ok(None) => Turn {
+            walked: Ok(None),
             at,
         },
-        Step::Fault(f) => Turn {
-            walked: Walked::Fault(f, at),
+        Err(f) => Turn {
+            walked: Err(Fault::Record(f, at)),
             at,
         },
-        Step::Record(h) => Turn {
-            walked: Walked::Record(Entry {
-                start: at,
-                tag: h.tag,
-                length: h.length,
-                hash: h.hash,
-            }),
+        Ok(Some(h)) => Turn {
+            walked: Ok(Some(entry_at(at, h))),
             at: at + RecordHeader::LENGTH + h.length as usize,
         },
     }
@@ -221,9 +200,9 @@ impl<'a> Walker<'a> {
         Walker { pack, at: 0 }
     }
 
-    // The record at the place reached, and on to the next; at the end, or at a fault, the walker
-    // stays, and answers the same at each later call.
-    pub fn next(&mut self) -> Walked
+    // The record at the place reached, and on to the next. At the end (None), or at a fault, the
+    // walker stays, and answers the same at each later call.
+    pub fn next(&mut self) -> Result<Option<Entry>, Fault>
         ensures { (yield_of result ≡ (turn_at pack_limit self.old.pack.now self.old.at).yield)
             × ((self.new.pack ≡ self.old.pack)
             × (self.new.at ≡ (turn_at pack_limit self.old.pack.now self.old.at).place)) }
@@ -235,16 +214,12 @@ impl<'a> Walker<'a> {
 }
 
 // What the walker answers to its call number n, from 0: for callers that need no walker.
-pub fn nth(pack: &[u8], n: usize) -> Walked
+pub fn nth(pack: &[u8], n: usize) -> Result<Option<Entry>, Fault>
     ensures { yield_of result ≡ nth_yield (reading pack_limit pack.now) n }
 {
     let mut w = Walker::new(pack);
-    let mut i = 0;
-    loop {
-        let walked = w.next();
-        if i == n {
-            return walked;
-        }
-        i += 1;
+    for _ in 0..n {
+        let _ = w.next();
     }
+    w.next()
 }

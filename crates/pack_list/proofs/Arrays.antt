@@ -2,7 +2,7 @@
 use Prim.Native.Nat.{ℕ, ◌+◌, ◌-◌, ◌≤◌, ◌<◌}
 use mathlib.Core.Bool.{Bool, true, false, ◌&&◌}
 use mathlib.Core.List.{List, [], ◌∷◌}
-use mathlib.Core.Option.{Option, none, some}
+use Rattle.std.specs.Prelude.{Option, None, Some}
 use mathlib.Core.Path.{◌≡◌, refl, sym, ap, subst}
 use native.Mathlib.Omega.{arith}
 use borrow.Author.Tests.{le-leb, lt-leb, leb-true, leb-false}
@@ -21,18 +21,17 @@ use Rattle.value.specs.Fields.{read_natural}
 use Rattle.pack_list.specs.Lists.{each_of, sum}
 use Rattle.pack_list.specs.Answers.{numbers_by, WholeItems, NumbersInside, within_from}
 use Rattle.pack_list.specs.declared.Numbers.{Numbers}
-use Rattle.pack_list.specs.declared.NumbersRead.TheVariants as numbers-answer
 use Rattle.pack_list.specs.Walks.{each_on, each_stops}
 
 -- ---- answers
 
-pub numbers_inside : (s : List ℕ) (n : Numbers) → n.first ≤ length s → WholeItems n.count (drop n.first s) → NumbersInside s (numbers-answer.Numbers n)
+pub numbers_inside : (s : List ℕ) (n : Numbers) → n.first ≤ length s → WholeItems n.count (drop n.first s) → NumbersInside s (Some n)
 numbers_inside s n h w = record {
   first = λ m e. let same : n ≡ m = cc in subst (λ (x : Numbers). x.first ≤ length s) same h;
   whole = λ m e. let same : n ≡ m = cc in subst (λ (x : Numbers). WholeItems x.count (drop x.first s)) same w;
 }
 
-pub no_numbers : (s : List ℕ) → NumbersInside s numbers-answer.Missing
+pub no_numbers : (s : List ℕ) → NumbersInside s None
 no_numbers s = record { first = λ m e. absurd_numbers (cc); whole = λ m e. absurd_numbers (cc) }
 
 pub none_whole : (s : List ℕ) → WholeItems 0 s
@@ -42,24 +41,24 @@ none_whole s = record { size = 0; is = refl }
 -- ---- the array under a key of the map at a place, by the place told of the key
 
 module _ (s : List ℕ) (at place : ℕ) (there : place ≡ 0 → ⊥) where
-  pub array_found : (c : Counted) → read_array (drop (at + place) s) ≡ some c
-      → some (items_from c.count (drop (at + place + c.size) s)) ≡ at_place (some []) (λ p. byte_view.items (drop p (drop at s))) (place_told place)
+  pub array_found : (c : Counted) → read_array (drop (at + place) s) ≡ Some c
+      → Some (items_from c.count (drop (at + place + c.size) s)) ≡ at_place (Some []) (λ p. byte_view.items (drop p (drop at s))) (place_told place)
   array_found c e = rw (told_found place there, drop-drop place at s, e, drop-drop c.size (at + place) s)
 
-  pub no_array : read_array (drop (at + place) s) ≡ none → none ≡ at_place (some []) (λ p. byte_view.items (drop p (drop at s))) (place_told place)
+  pub no_array : read_array (drop (at + place) s) ≡ None → None ≡ at_place (Some []) (λ p. byte_view.items (drop p (drop at s))) (place_told place)
   no_array e = rw (told_found place there, drop-drop place at s, e)
 
-  pub array_found_whole : (c : Counted) → read_array (drop (at + place) s) ≡ some c → WholeItem (drop place (drop at s))
+  pub array_found_whole : (c : Counted) → read_array (drop (at + place) s) ≡ Some c → WholeItem (drop place (drop at s))
       → WholeItems c.count (drop (at + place + c.size) s)
   array_found_whole c e w =
       let items = array_items (drop (at + place) s) c e (subst WholeItem (drop-drop place at s) w) in
       subst (WholeItems c.count) (drop-drop c.size (at + place) s) (record { size = items.after; is = items.rest })
 
-  pub array_placed : (c : Counted) → read_array (drop (at + place) s) ≡ some c
-      → some (record { count = c.count; first = at + place + c.size }) ≡ numbers_by s at (place_told place)
+  pub array_placed : (c : Counted) → read_array (drop (at + place) s) ≡ Some c
+      → Some (record { count = c.count; first = at + place + c.size }) ≡ numbers_by s at (place_told place)
   array_placed c e = rw (told_found place there, e)
 
-  pub no_array_placed : read_array (drop (at + place) s) ≡ none → none ≡ numbers_by s at (place_told place)
+  pub no_array_placed : read_array (drop (at + place) s) ≡ None → None ≡ numbers_by s at (place_told place)
   no_array_placed e = rw (told_found place there, e)
 
 -- ---- lengths, of which none is added before it is compared
@@ -80,7 +79,7 @@ module _ (s : List ℕ) (at count : ℕ) (within : Bool) (left : ℕ) (more : 0 
   abbrev lengths_read : Option (List ℕ)
   lengths_read = each_of read_natural (items_from count (drop at s))
 
-  pub length_more : (n : ℕ) → read_natural (drop at s) ≡ some n
+  pub length_more : (n : ℕ) → read_natural (drop at s) ≡ Some n
       → over (within_from within left) lengths_read
       ≡ over (within_from (within && leb n left) (left - n)) (each_of read_natural (items_from (count - 1) (drop (at + size_of (pass_over (drop at s))) s)))
   length_more n e =
@@ -88,13 +87,13 @@ module _ (s : List ℕ) (at count : ℕ) (within : Bool) (left : ℕ) (more : 0 
       (by (each_of read_natural (items_from (count - 1) (drop (at + size_of (pass_over (drop at s))) s))))
     where
       by : (o : Option (List ℕ)) → over (within_from within left) (over (λ ls. n ∷ ls) o) ≡ over (within_from (within && leb n left) (left - n)) o
-      by (some ls) = ap some (within_more within left n ls)
-      by none = refl
+      by (Some ls) = ap Some (within_more within left n ls)
+      by None = refl
 
-  pub no_length : read_natural (drop at s) ≡ none → over (within_from within left) lengths_read ≡ none
+  pub no_length : read_natural (drop at s) ≡ None → over (within_from within left) lengths_read ≡ None
   no_length e = rw (each_stops read_natural s at count _ more refl e)
 
-pub lengths_all : (s : List ℕ) (within : Bool) (left : ℕ) → over (within_from within left) (each_of read_natural (items_from 0 s)) ≡ some (within, left)
+pub lengths_all : (s : List ℕ) (within : Bool) (left : ℕ) → over (within_from within left) (each_of read_natural (items_from 0 s)) ≡ Some (within, left)
 unfolding each_of items_from within_from sum
 lengths_all s true left = let all : left - 0 ≡ left = omega arith in rw (le-leb 0 left (omega arith), all)
 lengths_all s false left = let all : left - 0 ≡ left = omega arith in rw all

@@ -2,7 +2,7 @@
 use Prim.Native.Nat.{ℕ, zero, suc, ◌+◌, ◌-◌, ◌≤◌}
 use mathlib.Core.Bool.{Bool, true, false, cond, ◌&&◌, ◌||◌}
 use mathlib.Core.List.{List, []}
-use mathlib.Core.Option.{Option, none, some}
+use Rattle.std.specs.Prelude.{Option, None, Some}
 use mathlib.Core.Path.{◌≡◌, refl, sym, ap, subst, ◌∙◌}
 use native.Mathlib.Omega.{arith}
 use lib.Dec.{ltb, leb}
@@ -27,15 +27,11 @@ use Rattle.pack_list.specs.Blocks.{rest_of, blocks, deltas_of, gains, losses, is
 use Rattle.pack_list.specs.Lengths.{blocks_with_rest}
 use Rattle.pack_list.specs.declared.Range.{Range}
 use Rattle.pack_list.specs.declared.Numbers.{Numbers}
-use Rattle.pack_list.specs.declared.NumbersRead.{NumbersRead}
-use Rattle.pack_list.specs.declared.NumbersRead.TheVariants as numbers-answer
 use Rattle.pack_list.specs.declared.Sums.{Sums}
 use Rattle.pack_list.specs.declared.Tests.{Tests}
 use Rattle.pack_list.specs.declared.Entry as placed
-use Rattle.pack_list.specs.declared.EntryRead.{EntryRead}
-use Rattle.pack_list.specs.declared.EntryRead.TheVariants as entry-answer
-use Rattle.pack_list.specs.declared.NextEntry.TheVariants as next-answer
-use Rattle.pack_list.specs.Answers.{range_told, ValueAt, numbers_at, numbers_by, numbers_place, within_from, WholeItems, items_in, SumsAre, AreSummed, entry_of, Told, told_of, told_in, entry_told, pack_place, SameEntry, EntryHere, EntryInside, NextInside}
+use Rattle.pack_list.specs.declared.NextEntry.{NextEntry}
+use Rattle.pack_list.specs.Answers.{range_told, ValueAt, numbers_by, numbers_place, within_from, WholeItems, items_in, SumsAre, AreSummed, entry_of, Told, told_of, told_in, entry_told, pack_place, SameEntry, EntryHere, EntryInside, NextInside}
 use Rattle.pack_list.specs.Walks.{items_count, each_count}
 
 -- ---- as many items as are counted
@@ -90,21 +86,21 @@ same_tests size repeated a b c d e = rw (a, b, c, d, e)
 
 module _ (s : List ℕ) (e : placed.Entry) (repeated : Bool) (size : ℕ) where
   -- a number that is none
-  pub no_lengths : each_of read_natural (items_in s e.lengths) ≡ none → none ≡ over (λ x. told_of x repeated size) (entry_of s e)
+  pub no_lengths : each_of read_natural (items_in s e.lengths) ≡ None → None ≡ over (λ x. told_of x repeated size) (entry_of s e)
   unfolding entry_of
   no_lengths h = rw h
 
-  pub no_deltas : (ls : List ℕ) → each_of read_natural (items_in s e.lengths) ≡ some ls → each_of read_integer (items_in s e.deltas) ≡ none
-      → none ≡ over (λ x. told_of x repeated size) (entry_of s e)
+  pub no_deltas : (ls : List ℕ) → each_of read_natural (items_in s e.lengths) ≡ Some ls → each_of read_integer (items_in s e.deltas) ≡ None
+      → None ≡ over (λ x. told_of x repeated size) (entry_of s e)
   unfolding entry_of
   no_deltas ls l h = rw (l, h)
 
-  module _ (ls : List ℕ) (lengths-are : each_of read_natural (items_in s e.lengths) ≡ some ls) (rest : ℕ) (left : rest ≡ e.stored.len - sum ls)
+  module _ (ls : List ℕ) (lengths-are : each_of read_natural (items_in s e.lengths) ≡ Some ls) (rest : ℕ) (left : rest ≡ e.stored.len - sum ls)
       (n : ℕ) (as_many : n ≡ e.lengths.count + length (rest_of rest)) (sums : Sums) (summed : AreSummed (items_in s e.deltas) n e.source.len sums) where
     abbrev entry : Entry
     entry = record { pack = part_at s e.pack; source = e.source; stored = e.stored; lengths = ls; deltas = summed.deltas }
 
-    entry_is : entry_of s e ≡ some entry
+    entry_is : entry_of s e ≡ Some entry
     unfolding entry_of
     entry_is = rw (lengths-are, summed.are)
 
@@ -117,50 +113,50 @@ module _ (s : List ℕ) (e : placed.Entry) (repeated : Bool) (size : ℕ) where
     pub entry_tested : (named short fits within : Bool) (stride : ℕ) → named ≡ is_ulid (part_at s e.pack)
         → short ≡ is_short e.source → fits ≡ is_short e.stored → within ≡ leb (sum ls) e.stored.len
         → stride ≡ cond (ltb 0 n && sums.counted) (ceiling (sums.losses - sums.gains) (n - 1)) 0
-        → told_in s (entry-answer.Entry e (tests size repeated named (short && (fits && within)) n stride (ltb 0 n && sums.counted)))
+        → told_in s (Some (e, tests size repeated named (short && (fits && within)) n stride (ltb 0 n && sums.counted)))
         ≡ over (λ x. told_of x repeated size) (entry_of s e)
     unfolding told_of is_filled
     entry_tested named short fits within stride a b c d f =
         rw entry_is
-        (ap (λ (t : Tests). some (told entry t))
+        (ap (λ (t : Tests). Some (told entry t))
         (same_tests size repeated a (rw (b, c, d)) are_blocks (f ∙ stride_told entry n sums are_blocks summed.sums)
         (counted_told entry n sums are_blocks summed.sums)))
 
 pub same_entry : (s : List ℕ) (e : placed.Entry) (t : Tests) (lengths : List ℕ) (deltas : List Int)
-    → each_of read_natural (items_in s e.lengths) ≡ some lengths → each_of read_integer (items_in s e.deltas) ≡ some deltas
-    → SameEntry s e (entry-answer.Entry e t)
+    → each_of read_natural (items_in s e.lengths) ≡ Some lengths → each_of read_integer (items_in s e.deltas) ≡ Some deltas
+    → SameEntry s e (Some (e, t))
 unfolding entry_of
 same_entry s e t lengths deltas ls ds =
     record {
-      same = λ x u q. let same : e ≡ x = cc in sym same;
+      same = λ x u q. let same : ◌≡◌ {A = placed.Entry × Tests} (e, t) (x, u) = cc in sym (ap (λ (r : placed.Entry × Tests). r.0) same);
       there = λ x u q n.
-          let same : e ≡ x = cc in
-          let nothing = rw (← same, ls, ds) at n in
+          let same : ◌≡◌ {A = placed.Entry × Tests} (e, t) (x, u) = cc in
+          let nothing = rw (← ap (λ (r : placed.Entry × Tests). r.0) same, ls, ds) at n in
           absurd_numbers (cc);
     }
 
-pub no_entry_lem : (s : List ℕ) (e : placed.Entry) → SameEntry s e entry-answer.Missing
+pub no_entry_lem : (s : List ℕ) (e : placed.Entry) → SameEntry s e None
 no_entry_lem s e = record { same = λ x u q. absurd_numbers (cc); there = λ x u q n. absurd_numbers (cc) }
 
 -- ---- lengths of which it was told whether they are within a total
 
 pub record WithinTold (o : Option (List ℕ)) (total : ℕ) (within : Bool) (rest : ℕ) : Type 0 where
   pub lengths : List ℕ
-  pub are : o ≡ some lengths
+  pub are : o ≡ Some lengths
   pub is : within ≡ leb (sum lengths) total
   pub left : rest ≡ total - sum lengths
 
-pub within_told : (o : Option (List ℕ)) (total : ℕ) (within : Bool) (rest : ℕ) → some (within, rest) ≡ over (within_from true total) o
+pub within_told : (o : Option (List ℕ)) (total : ℕ) (within : Bool) (rest : ℕ) → Some (within, rest) ≡ over (within_from true total) o
     → WithinTold o total within rest
 unfolding within_from
-within_told (some ls) total within rest e =
+within_told (Some ls) total within rest e =
     let pair : ◌≡◌ {A = Bool × ℕ} (within, rest) (leb (sum ls) total, total - sum ls) = cc in
     record { lengths = ls; are = refl; is = ap (λ (x : Bool × ℕ). x.0) pair; left = ap (λ (x : Bool × ℕ). x.1) pair }
-within_told none total within rest e = absurd_numbers (cc)
+within_told None total within rest e = absurd_numbers (cc)
 
-pub none_told : (o : Option (List ℕ)) (total : ℕ) → none ≡ over (within_from true total) o → o ≡ none
-none_told (some ls) total e = absurd_numbers (cc)
-none_told none total e = refl
+pub none_told : (o : Option (List ℕ)) (total : ℕ) → None ≡ over (within_from true total) o → o ≡ None
+none_told (Some ls) total e = absurd_numbers (cc)
+none_told None total e = refl
 
 -- ---- what stands under the keys of an entry
 
@@ -169,7 +165,7 @@ value_at_lem key m p e = record { inside = told_inside key m p e; whole = λ the
 
 -- the pack's text
 module _ (s : List ℕ) (at p : ℕ) (e : last_value pack_key (drop at s) ≡ place_told p) where
-  pub no_pack : p ≡ 0 → text_under byte_view pack_key (drop at s) ≡ none
+  pub no_pack : p ≡ 0 → text_under byte_view pack_key (drop at s) ≡ None
   unfolding text_under
   no_pack z = rw (e, z)
 
@@ -183,41 +179,41 @@ module _ (s : List ℕ) (at p : ℕ) (e : last_value pack_key (drop at s) ≡ pl
     pack_placed = rw (e, told_found p there, drop-drop p at s)
 
 -- there is no map
-pub pack_broken : (m : List ℕ) → last_value pack_key m ≡ broken → text_under byte_view pack_key m ≡ none
+pub pack_broken : (m : List ℕ) → last_value pack_key m ≡ broken → text_under byte_view pack_key m ≡ None
 unfolding text_under
 pack_broken m e = rw e
 
 -- a range, and whether a key repeats in it
 pub record RangeUnder (u : Under (List ℕ)) (r : Range) (repeated : Bool) : Type 0 where
-  pub range : at_place none (range_at byte_view) u ≡ some r
+  pub range : at_place None (range_at byte_view) u ≡ Some r
   pub repeats : range_repeats byte_view u ≡ repeated
 
-pub range_under_lem : (u : Under (List ℕ)) (r : Range) (repeated : Bool) → at_place none range_told u ≡ some (r, repeated) → RangeUnder u r repeated
+pub range_under_lem : (u : Under (List ℕ)) (r : Range) (repeated : Bool) → at_place None range_told u ≡ Some (r, repeated) → RangeUnder u r repeated
 unfolding range_told
 range_under_lem (found m) r repeated e = by (range_at byte_view m) refl e
   where
-    by : (o : Option Range) → range_at byte_view m ≡ o → over {B = Range × Bool} (λ x. (x, repeats byte_view range_keys m)) o ≡ some (r, repeated)
+    by : (o : Option Range) → range_at byte_view m ≡ o → over {B = Range × Bool} (λ x. (x, repeats byte_view range_keys m)) o ≡ Some (r, repeated)
         → RangeUnder (found m) r repeated
-    by (some x) h q =
+    by (Some x) h q =
         let same : ◌≡◌ {A = Range × Bool} (x, repeats byte_view range_keys m) (r, repeated) = cc in
-        record { range = h ∙ ap some (ap (λ (y : Range × Bool). y.0) same); repeats = ap (λ (y : Range × Bool). y.1) same }
-    by none h q = absurd_numbers (cc)
+        record { range = h ∙ ap Some (ap (λ (y : Range × Bool). y.0) same); repeats = ap (λ (y : Range × Bool). y.1) same }
+    by None h q = absurd_numbers (cc)
 range_under_lem missing r repeated e = absurd_numbers (cc)
 range_under_lem broken r repeated e = absurd_numbers (cc)
 
-pub no_range_under : (u : Under (List ℕ)) → at_place none range_told u ≡ none → at_place none (range_at byte_view) u ≡ none
+pub no_range_under : (u : Under (List ℕ)) → at_place None range_told u ≡ None → at_place None (range_at byte_view) u ≡ None
 unfolding range_told
 no_range_under (found m) e = by (range_at byte_view m) e
   where
-    by : (o : Option Range) → over {B = Range × Bool} (λ x. (x, repeats byte_view range_keys m)) o ≡ none → o ≡ none
-    by (some x) q = absurd_numbers (cc)
-    by none q = refl
+    by : (o : Option Range) → over {B = Range × Bool} (λ x. (x, repeats byte_view range_keys m)) o ≡ None → o ≡ None
+    by (Some x) q = absurd_numbers (cc)
+    by None q = refl
 no_range_under missing e = refl
 no_range_under broken e = refl
 
 -- an array; one that is missing is empty
 pub list_under : {A : Type 0} (read : List ℕ → Option A) (u : Under (List ℕ))
-    → at_place (some []) (list_at byte_view read) u ≡ if_there (at_place (some []) byte_view.items u) (each_of read)
+    → at_place (Some []) (list_at byte_view read) u ≡ if_there (at_place (Some []) byte_view.items u) (each_of read)
 unfolding list_at each_of
 list_under read (found m) = refl
 list_under read missing = refl
@@ -232,17 +228,17 @@ entry_by pack source stored lengths deltas =
     if_there stored λ st.
     if_there lengths λ ls.
     if_there deltas λ ds.
-    some (record { pack = p; source = so; stored = st; lengths = ls; deltas = ds })
+    Some (record { pack = p; source = so; stored = st; lengths = ls; deltas = ds })
 
 module _ (m : List ℕ) where
   abbrev pub range_under : List ℕ → Option Range
-  range_under key = at_place none (range_at byte_view) (byte_view.under key m)
+  range_under key = at_place None (range_at byte_view) (byte_view.under key m)
 
   abbrev pub lengths_under : Option (List ℕ)
-  lengths_under = at_place (some []) (list_at byte_view (natural_at byte_view)) (byte_view.under lengths_key m)
+  lengths_under = at_place (Some []) (list_at byte_view (natural_at byte_view)) (byte_view.under lengths_key m)
 
   abbrev pub deltas_under : Option (List Int)
-  deltas_under = at_place (some []) (list_at byte_view byte_view.integer) (byte_view.under deltas_key m)
+  deltas_under = at_place (Some []) (list_at byte_view byte_view.integer) (byte_view.under deltas_key m)
 
   module _ (pack : Option (List ℕ)) (source stored : Option Range) (lengths : Option (List ℕ)) (deltas : Option (List Int))
       (p : text_under byte_view pack_key m ≡ pack) (so : range_under source_key ≡ source) (st : range_under stored_key ≡ stored)
@@ -252,24 +248,24 @@ module _ (m : List ℕ) where
     entry_by_lem = rw (p, so, st, ls, ds)
 
     -- one of them is not as described
-    pub no_entry_told : entry_by pack source stored lengths deltas ≡ none → none ≡ entry_told m
+    pub no_entry_told : entry_by pack source stored lengths deltas ≡ None → None ≡ entry_told m
     unfolding entry_told
     no_entry_told n = rw (entry_by_lem ∙ n)
 
   -- the deltas are not, whatever the lengths are
   pub no_deltas_told : (pack : List ℕ) (source stored : Range) (lengths : Option (List ℕ))
-      → text_under byte_view pack_key m ≡ some pack → range_under source_key ≡ some source → range_under stored_key ≡ some stored
-      → lengths_under ≡ lengths → deltas_under ≡ none → none ≡ entry_told m
-  no_deltas_told pack source stored (some lengths) p so st ls ds = no_entry_told (some pack) (some source) (some stored) (some lengths) none p so st ls ds refl
-  no_deltas_told pack source stored none p so st ls ds = no_entry_told (some pack) (some source) (some stored) none none p so st ls ds refl
+      → text_under byte_view pack_key m ≡ Some pack → range_under source_key ≡ Some source → range_under stored_key ≡ Some stored
+      → lengths_under ≡ lengths → deltas_under ≡ None → None ≡ entry_told m
+  no_deltas_told pack source stored (Some lengths) p so st ls ds = no_entry_told (Some pack) (Some source) (Some stored) (Some lengths) None p so st ls ds refl
+  no_deltas_told pack source stored None p so st ls ds = no_entry_told (Some pack) (Some source) (Some stored) None None p so st ls ds refl
 
-module _ (s m : List ℕ) (e : placed.Entry) (outside twice again : Bool) (pack : text_under byte_view pack_key m ≡ some (part_at s e.pack))
+module _ (s m : List ℕ) (e : placed.Entry) (outside twice again : Bool) (pack : text_under byte_view pack_key m ≡ Some (part_at s e.pack))
     (source : RangeUnder (byte_view.under source_key m) e.source twice) (stored : RangeUnder (byte_view.under stored_key m) e.stored again)
     (lengths : lengths_under m ≡ each_of read_natural (items_in s e.lengths)) (deltas : deltas_under m ≡ each_of read_integer (items_in s e.deltas))
     (repeated : repeats byte_view entry_keys m ≡ outside) (size : ℕ) (sized : size_of (pass_over m) ≡ size) where
   entry_read : entry_at byte_view m ≡ entry_of s e
   unfolding entry_of
-  entry_read = entry_by_lem m (some _) (some _) (some _) _ _ pack source.range stored.range lengths deltas
+  entry_read = entry_by_lem m (Some _) (Some _) (Some _) _ _ pack source.range stored.range lengths deltas
 
   repeats_read : entry_repeats byte_view m ≡ (outside || (twice || again))
   unfolding entry_repeats
@@ -284,65 +280,65 @@ module _ (s m : List ℕ) (e : placed.Entry) (outside twice again : Bool) (pack 
 
 -- ---- where the pack's text, the lengths and the deltas stand
 
-pub numbers_placed : (key s : List ℕ) (at p : ℕ) → last_value key (drop at s) ≡ place_told p → (r : NumbersRead) → numbers_at r ≡ numbers_by s at (place_told p)
-    → (n : Numbers) → r ≡ numbers-answer.Numbers n → some n ≡ numbers_place key s at
+pub numbers_placed : (key s : List ℕ) (at p : ℕ) → last_value key (drop at s) ≡ place_told p → (r : Option Numbers) → r ≡ numbers_by s at (place_told p)
+    → (n : Numbers) → r ≡ Some n → Some n ≡ numbers_place key s at
 unfolding numbers_place
-numbers_placed key s at p e r h n q = sym (ap numbers_at q) ∙ h ∙ ap (numbers_by s at) (sym e)
+numbers_placed key s at p e r h n q = sym q ∙ h ∙ ap (numbers_by s at) (sym e)
 
-pub entry_inside : (s : List ℕ) (at : ℕ) (e : placed.Entry) (r : EntryRead) → SameEntry s e r → some e.pack ≡ pack_place s at
-    → some e.lengths ≡ numbers_place lengths_key s at → some e.deltas ≡ numbers_place deltas_key s at → EntryInside s at r
+pub entry_inside : (s : List ℕ) (at : ℕ) (e : placed.Entry) (r : Option (placed.Entry × Tests)) → SameEntry s e r → Some e.pack ≡ pack_place s at
+    → Some e.lengths ≡ numbers_place lengths_key s at → Some e.deltas ≡ numbers_place deltas_key s at → EntryInside s at r
 entry_inside s at e r same p ls ds =
     record {
       here = λ x t q.
           let is = same.same x t q in
           record {
-            pack = ap (λ (y : placed.Entry). some y.pack) is ∙ p;
-            lengths = ap (λ (y : placed.Entry). some y.lengths) is ∙ ls;
-            deltas = ap (λ (y : placed.Entry). some y.deltas) is ∙ ds;
+            pack = ap (λ (y : placed.Entry). Some y.pack) is ∙ p;
+            lengths = ap (λ (y : placed.Entry). Some y.lengths) is ∙ ls;
+            deltas = ap (λ (y : placed.Entry). Some y.deltas) is ∙ ds;
             there = same.there x t q;
           };
     }
 
-pub none_inside : (s : List ℕ) (at : ℕ) → EntryInside s at entry-answer.Missing
+pub none_inside : (s : List ℕ) (at : ℕ) → EntryInside s at None
 none_inside s at = record { here = λ x t q. absurd_numbers (cc) }
 
-pub next_inside : (s : List ℕ) (at : ℕ) (e : placed.Entry) (n next : ℕ) → EntryHere s at e → ((x : Entry) → entry_of s e ≡ some x → n ≡ blocks x)
-    → NextInside s at (next-answer.Entry e n next)
-next_inside s at e n next h counts =
+pub next_inside : (s : List ℕ) (at : ℕ) (n : NextEntry) → EntryHere s at n.entry → ((x : Entry) → entry_of s n.entry ≡ Some x → n.blocks ≡ blocks x)
+    → NextInside s at (Some n)
+next_inside s at n h counts =
     record {
-      here = λ x k m q. let same : e ≡ x = cc in subst (EntryHere s at) same h;
-      blocks = λ x k m q y is. let same : e ≡ x = cc in let as_many : n ≡ k = cc in sym as_many ∙ counts y (rw same is);
+      here = λ m q. let same : n ≡ m = cc in subst (λ (x : NextEntry). EntryHere s at x.entry) same h;
+      blocks = λ m q y is. let same : n ≡ m = cc in subst (λ (x : NextEntry). entry_of s x.entry ≡ Some y → x.blocks ≡ blocks y) same (counts y) is;
     }
 
-pub no_next : (s : List ℕ) (at : ℕ) → NextInside s at next-answer.Missing
-no_next s at = record { here = λ x k m q. absurd_numbers (cc); blocks = λ x k m q y is. absurd_numbers (cc) }
+pub no_next : (s : List ℕ) (at : ℕ) → NextInside s at None
+no_next s at = record { here = λ m q. absurd_numbers (cc); blocks = λ m q y is. absurd_numbers (cc) }
 
 -- ---- the entry alone, by what is told of it
 
 entries : (tell : Entry → Told) → ((x : Entry) → (tell x).entry ≡ x) → (o : Option Entry) → over (λ (t : Told). t.entry) (over tell o) ≡ o
-entries tell same (some x) = ap some (same x)
-entries tell same none = refl
+entries tell same (Some x) = ap Some (same x)
+entries tell same None = refl
 
 entry_of_told : (m : List ℕ) → over (λ (t : Told). t.entry) (entry_told m) ≡ entry_at byte_view m
 unfolding entry_told told_of
 entry_of_told m = entries (λ x. told_of x (entry_repeats byte_view m) (size_of (pass_over m))) (λ x. refl) (entry_at byte_view m)
 
-pub told_entry : (s m : List ℕ) (e : placed.Entry) (t : Tests) → told_in s (entry-answer.Entry e t) ≡ entry_told m → entry_of s e ≡ entry_at byte_view m
+pub told_entry : (s m : List ℕ) (e : placed.Entry) (t : Tests) → told_in s (Some (e, t)) ≡ entry_told m → entry_of s e ≡ entry_at byte_view m
 told_entry s m e t h = sym (entries (λ x. told x t) (λ x. refl) (entry_of s e)) ∙ ap (over (λ (u : Told). u.entry)) h ∙ entry_of_told m
 
-pub told_none : (m : List ℕ) → none ≡ entry_told m → entry_at byte_view m ≡ none
+pub told_none : (m : List ℕ) → None ≡ entry_told m → entry_at byte_view m ≡ None
 told_none m h = sym (entry_of_told m) ∙ ap (over (λ (u : Told). u.entry)) (sym h)
 
 -- its tests, of an entry that was told
-pub tests_are : (s m : List ℕ) (e : placed.Entry) (t : Tests) (x : Entry) → told_in s (entry-answer.Entry e t) ≡ entry_told m → entry_at byte_view m ≡ some x
+pub tests_are : (s m : List ℕ) (e : placed.Entry) (t : Tests) (x : Entry) → told_in s (Some (e, t)) ≡ entry_told m → entry_at byte_view m ≡ Some x
     → t ≡ (told_of x (entry_repeats byte_view m) (size_of (pass_over m))).tests
 unfolding entry_told
 tests_are s m e t x h i = go (entry_of s e) (rw i at h)
   where
-    go : (o : Option Entry) → over (λ y. told y t) o ≡ some (told_of x (entry_repeats byte_view m) (size_of (pass_over m)))
+    go : (o : Option Entry) → over (λ y. told y t) o ≡ Some (told_of x (entry_repeats byte_view m) (size_of (pass_over m)))
         → t ≡ (told_of x (entry_repeats byte_view m) (size_of (pass_over m))).tests
-    go none f = absurd_numbers (cc)
-    go (some y) f =
+    go None f = absurd_numbers (cc)
+    go (Some y) f =
         let same : told y t ≡ told_of x (entry_repeats byte_view m) (size_of (pass_over m)) = cc in
         ap (λ (z : Told). z.tests) same
 
@@ -352,7 +348,7 @@ pub record TestsAre (m : List ℕ) (t : Tests) (x : Entry) : Type 0 where
   pub blocks : t.blocks ≡ blocks x
   pub counted : t.counted ≡ is_counted x
 
-pub tests_tell : (s m : List ℕ) (e : placed.Entry) (t : Tests) (x : Entry) → told_in s (entry-answer.Entry e t) ≡ entry_told m → entry_of s e ≡ some x
+pub tests_tell : (s m : List ℕ) (e : placed.Entry) (t : Tests) (x : Entry) → told_in s (Some (e, t)) ≡ entry_told m → entry_of s e ≡ Some x
     → TestsAre m t x
 unfolding told_of
 tests_tell s m e t x h q =

@@ -2,7 +2,7 @@
 use Prim.Native.Nat.{ℕ, ◌≤◌}
 use mathlib.Core.Bool.{Bool, true, false, cond, ◌||◌, not}
 use mathlib.Core.List.{List, []}
-use mathlib.Core.Option.{Option, none, some}
+use Rattle.std.specs.Prelude.{Option, None, Some, Result, Ok, Err}
 use mathlib.Core.Path.{◌≡◌, refl, sym, ap, subst, ◌∙◌}
 use native.Mathlib.Omega.{arith}
 use borrow.Author.Tests.{le-leb}
@@ -16,8 +16,7 @@ use Rattle.identifier.specs.Ulid.{is_ulid}
 use Rattle.primary.specs.Parts.{fills, Shape, shape_under, block_repeats, block}
 use Rattle.primary.specs.Answers.{BlockInside, block_of}
 use Rattle.primary.specs.declared.Texts.{Texts}
-use Rattle.primary.specs.declared.BlockRead.{BlockRead}
-use Rattle.primary.specs.declared.BlockRead.TheVariants as identifier-answer
+use Rattle.primary.specs.declared.Fault.{Fault as IdentifierFault}
 use Rattle.primary.specs.declared.Fault.TheVariants as identifier-fault
 use Rattle.pack_list.specs.Lists.{entries_key, list_keys, Entry, each_of, list_at, entry_at, entries_under, any_of, items_repeat, entries_repeat, list_repeats, all_of, is_filled, pack_list_by, pack_list}
 use Rattle.pack_list.specs.Blocks.{stride}
@@ -26,30 +25,26 @@ use Rattle.pack_list.specs.declared.Fault.{Fault}
 use Rattle.pack_list.specs.declared.Fault.TheVariants as fault
 use Rattle.pack_list.specs.declared.Numbers.{Numbers}
 use Rattle.pack_list.specs.declared.Survey.{Survey}
-use Rattle.pack_list.specs.declared.Holder.{Holder}
-use Rattle.pack_list.specs.declared.Holder.TheVariants as holder-answer
+use Rattle.pack_list.specs.declared.Held.{Held}
 use Rattle.pack_list.specs.declared.PackList as listed
-use Rattle.pack_list.specs.declared.ListRead.{ListRead}
-use Rattle.pack_list.specs.declared.ListRead.TheVariants as list-answer
-use Rattle.pack_list.specs.declared.Reading.TheVariants as reading-answer
-use Rattle.pack_list.specs.Answers.{number_of, numbers_place, items_in, WholeItems, no_entry, holder_of, holder_in, HolderInside, or_none, entry_items, entries_in, list_by, ListInside, read_for, ReadFor, reading_of, ReadingInside}
+use Rattle.pack_list.specs.Answers.{number_of, numbers_place, items_in, WholeItems, no_entry, holder_of, holder_in, HolderInside, or_none, entry_items, entries_in, ListRead, list_by, ListInside, read_for, ReadFor, reading_of, ReadingInside}
 use Rattle.pack_list.proofs.Surveys.{Tells, entry_held}
 
 -- ---- the entries
 
 module _ (s : List ℕ) where
-  pub entries_broken : last_value entries_key s ≡ broken → entries_under byte_view s ≡ none
+  pub entries_broken : last_value entries_key s ≡ broken → entries_under byte_view s ≡ None
   unfolding entries_under
   entries_broken e = rw e
 
   module _ (place : ℕ) (told : last_value entries_key s ≡ place_told place) (items : Option (List (List ℕ)))
-      (are : items ≡ at_place (some []) (λ p. byte_view.items (drop p (drop 0 s))) (place_told place)) where
+      (are : items ≡ at_place (Some []) (λ p. byte_view.items (drop p (drop 0 s))) (place_told place)) where
     pub entries_told : entries_under byte_view s ≡ if_there items (each_of (entry_at byte_view))
     unfolding entries_under list_at each_of
     entries_told = rw (told, are) (go (place_told place))
       where
-        go : (u : ValuePlace) → at_place (some []) (list_at byte_view (entry_at byte_view)) (front_of s u)
-            ≡ if_there (at_place (some []) (λ p. byte_view.items (drop p (drop 0 s))) u) (each_of (entry_at byte_view))
+        go : (u : ValuePlace) → at_place (Some []) (list_at byte_view (entry_at byte_view)) (front_of s u)
+            ≡ if_there (at_place (Some []) (λ p. byte_view.items (drop p (drop 0 s))) u) (each_of (entry_at byte_view))
         go (found p) = refl
         go missing = refl
         go broken = refl
@@ -59,7 +54,7 @@ module _ (s : List ℕ) where
     items_told = rw (told, are) (go (place_told place))
       where
         go : (u : ValuePlace)
-            → or_none (at_place (some []) (λ p. byte_view.items (drop p (drop 0 s))) u) ≡ or_none (at_place (some []) byte_view.items (front_of s u))
+            → or_none (at_place (Some []) (λ p. byte_view.items (drop p (drop 0 s))) u) ≡ or_none (at_place (Some []) byte_view.items (front_of s u))
         go (found p) = refl
         go missing = refl
         go broken = refl
@@ -68,7 +63,7 @@ module _ (s : List ℕ) where
     unfolding list_repeats any_of
     repeats_told = ap (λ t. repeats byte_view list_keys s || t) (rw (told, are) (go (place_told place)))
       where
-        go : (u : ValuePlace) → entries_repeat byte_view (front_of s u) ≡ items_repeat byte_view (at_place (some []) (λ p. byte_view.items (drop p (drop 0 s))) u)
+        go : (u : ValuePlace) → entries_repeat byte_view (front_of s u) ≡ items_repeat byte_view (at_place (Some []) (λ p. byte_view.items (drop p (drop 0 s))) u)
         go (found p) = refl
         go missing = refl
         go broken = refl
@@ -76,7 +71,7 @@ module _ (s : List ℕ) where
 -- ---- refusals
 
 module _ (s : List ℕ) (byte : ℕ) where
-  pub refused_for : (f : Fault) → refused (number_of f) ≡ pack_list s → ReadFor s byte (list-answer.Fault f)
+  pub refused_for : (f : Fault) → refused (number_of f) ≡ pack_list s → ReadFor s byte (Err f)
   refused_for f e =
       record {
         reads = e;
@@ -90,65 +85,78 @@ pub not_whole : (s : List ℕ) → fills s ≡ false → refused 16 ≡ pack_lis
 unfolding pack_list
 not_whole s e = rw e
 
-pub no_entries_lem : (s : List ℕ) → fills s ≡ true → entries_under byte_view s ≡ none → refused 17 ≡ pack_list s
+pub no_entries_lem : (s : List ℕ) → fills s ≡ true → entries_under byte_view s ≡ None → refused 17 ≡ pack_list s
 unfolding pack_list
 no_entries_lem s w e = rw (w, e) (go (shape_under byte_view s))
   where
-    go : (shape : Option Shape) → refused 17 ≡ pack_list_by shape none (block_repeats byte_view s || list_repeats byte_view s)
-    go (some i) = refl
-    go none = refl
+    go : (shape : Option Shape) → refused 17 ≡ pack_list_by shape None (block_repeats byte_view s || list_repeats byte_view s)
+    go (Some i) = refl
+    go None = refl
 
 -- ---- by the identifier and by what all entries tell
 
-record IsListed (identifier : BlockRead) (entries : Numbers) (all : Survey) (holder : Holder) (l : listed.PackList) (n : ℕ) (h : Holder) : Type 0 where
+abbrev Told : Type 0
+Told = listed.PackList × ℕ × Option Held
+
+record IsListed (identifier : Result Texts IdentifierFault) (entries : Numbers) (all : Survey) (holder : Option Held) (l : listed.PackList) (n : ℕ) (h : Option Held) : Type 0 where
   texts : Texts
-  read : identifier ≡ identifier-answer.Read texts
+  read : identifier ≡ Ok texts
   list : l ≡ record { identifier = texts; entries = entries }
   strided : n ≡ all.stride
   held : h ≡ holder
   filled : all.filled ≡ true
 
-is_listed_lem : (identifier : BlockRead) (entries : Numbers) (all : Survey) (holder : Holder) (l : listed.PackList) (n : ℕ) (h : Holder)
-    → list_by identifier entries all holder ≡ list-answer.List l n h → IsListed identifier entries all holder l n h
-is_listed_lem (identifier-answer.Fault f) entries all holder l n h e = absurd_numbers (cc)
-is_listed_lem (identifier-answer.Read t) entries all holder l n h e = by all.repeated all.named all.filled refl e
+is_listed_lem : (identifier : Result Texts IdentifierFault) (entries : Numbers) (all : Survey) (holder : Option Held) (l : listed.PackList) (n : ℕ) (h : Option Held)
+    → list_by identifier entries all holder ≡ Ok (l, n, h) → IsListed identifier entries all holder l n h
+is_listed_lem (Err f) entries all holder l n h e = absurd_numbers (cc)
+is_listed_lem (Ok t) entries all holder l n h e = by all.repeated all.named all.filled refl e
   where
     by : (repeated named filled : Bool) → all.filled ≡ filled
-        → cond repeated (list-answer.Fault (fault.Part identifier-fault.Repeated))
-        (cond (not named) (list-answer.Fault (fault.Part identifier-fault.RuleBroken))
-        (cond (not filled) (list-answer.Fault fault.Unfilled)
-        (list-answer.List (record { identifier = t; entries = entries }) all.stride holder)))
-        ≡ list-answer.List l n h
-        → IsListed (identifier-answer.Read t) entries all holder l n h
+        → ◌≡◌ {A = ListRead}
+        (cond repeated (Err (fault.Part identifier-fault.Repeated))
+        (cond (not named) (Err (fault.Part identifier-fault.RuleBroken))
+        (cond (not filled) (Err fault.Unfilled)
+        (Ok (record { identifier = t; entries = entries }, all.stride, holder)))))
+        (Ok (l, n, h))
+        → IsListed (Ok t) entries all holder l n h
     by true named filled q f = absurd_numbers (cc)
     by false false filled q f = absurd_numbers (cc)
     by false true false q f = absurd_numbers (cc)
-    by false true true q f = record { texts = t; read = refl; list = (cc); strided = (cc); held = (cc); filled = q }
+    by false true true q f =
+        let same : ◌≡◌ {A = Told} (record { identifier = t; entries = entries }, all.stride, holder) (l, n, h) = cc in
+        record {
+          texts = t;
+          read = refl;
+          list = sym (ap (λ (r : Told). r.0) same);
+          strided = sym (ap (λ (r : Told). r.1) same);
+          held = sym (ap (λ (r : Told). r.2) same);
+          filled = q;
+        }
 
-by_parts : (s : List ℕ) (entries : Numbers) (n : ℕ) (holder : Holder) (es : List Entry) → entries_in s entries ≡ es
-    → (identifier : BlockRead) (repeated named filled : Bool) → named ≡ all_of (λ (e : Entry). is_ulid e.pack) es → filled ≡ all_of is_filled es
+by_parts : (s : List ℕ) (entries : Numbers) (n : ℕ) (holder : Option Held) (es : List Entry) → entries_in s entries ≡ es
+    → (identifier : Result Texts IdentifierFault) (repeated named filled : Bool) → named ≡ all_of (λ (e : Entry). is_ulid e.pack) es → filled ≡ all_of is_filled es
     → read_for s (list_by identifier entries (record { repeated = repeated; named = named; filled = filled; stride = n }) holder)
-    ≡ combined (block_of s identifier) (some es) repeated
-by_parts s entries n holder es q (identifier-answer.Fault identifier-fault.NotWhole) repeated named filled p f = refl
-by_parts s entries n holder es q (identifier-answer.Fault identifier-fault.NotAsDescribed) repeated named filled p f = refl
-by_parts s entries n holder es q (identifier-answer.Fault identifier-fault.Repeated) true named filled p f = refl
-by_parts s entries n holder es q (identifier-answer.Fault identifier-fault.Repeated) false named filled p f = refl
-by_parts s entries n holder es q (identifier-answer.Fault identifier-fault.RuleBroken) true named filled p f = refl
-by_parts s entries n holder es q (identifier-answer.Fault identifier-fault.RuleBroken) false named filled p f = refl
-by_parts s entries n holder es q (identifier-answer.Read t) true named filled p f = refl
-by_parts s entries n holder es q (identifier-answer.Read t) false false filled p f = rw (← p)
-by_parts s entries n holder es q (identifier-answer.Read t) false true false p f = rw (← p, ← f)
-by_parts s entries n holder es q (identifier-answer.Read t) false true true p f = rw (← p, ← f, q)
+    ≡ combined (block_of s identifier) (Some es) repeated
+by_parts s entries n holder es q (Err identifier-fault.NotWhole) repeated named filled p f = refl
+by_parts s entries n holder es q (Err identifier-fault.NotAsDescribed) repeated named filled p f = refl
+by_parts s entries n holder es q (Err identifier-fault.Repeated) true named filled p f = refl
+by_parts s entries n holder es q (Err identifier-fault.Repeated) false named filled p f = refl
+by_parts s entries n holder es q (Err identifier-fault.RuleBroken) true named filled p f = refl
+by_parts s entries n holder es q (Err identifier-fault.RuleBroken) false named filled p f = refl
+by_parts s entries n holder es q (Ok t) true named filled p f = refl
+by_parts s entries n holder es q (Ok t) false false filled p f = rw (← p)
+by_parts s entries n holder es q (Ok t) false true false p f = rw (← p, ← f)
+by_parts s entries n holder es q (Ok t) false true true p f = rw (← p, ← f, q)
 
 -- the entry that holds the byte is the one that its item is
-held_is : (s : List ℕ) (h : Holder) → HolderInside s h → holder_in s h ≡ entry_held (holder_of s h)
-held_is s holder-answer.None i = refl
-held_is s (holder-answer.Entry x) i = let h = i.held x refl in rw (h.is, h.item)
+held_is : (s : List ℕ) (h : Option Held) → HolderInside s h → holder_in s h ≡ entry_held (holder_of s h)
+held_is s None i = refl
+held_is s (Some x) i = let h = i.held x refl in rw (h.is, h.item)
 
-module _ (s : List ℕ) (byte : ℕ) (identifier : BlockRead) (names : block_of s identifier ≡ block s) (texts : BlockInside s identifier)
-    (entries : Numbers) (placed : some entries ≡ numbers_place entries_key s 0) (first : entries.first ≤ length s) (whole : WholeItems entries.count (drop entries.first s))
+module _ (s : List ℕ) (byte : ℕ) (identifier : Result Texts IdentifierFault) (names : block_of s identifier ≡ block s) (texts : BlockInside s identifier)
+    (entries : Numbers) (placed : Some entries ≡ numbers_place entries_key s 0) (first : entries.first ≤ length s) (whole : WholeItems entries.count (drop entries.first s))
     (there : entries_under byte_view s ≡ each_of (entry_at byte_view) (items_in s entries)) (listed : items_in s entries ≡ entry_items s)
-    (inside : Survey) (holder : Holder) (t : Tells byte 0 no_entry none (items_in s entries) inside (holder_of s holder)) (holds : HolderInside s holder)
+    (inside : Survey) (holder : Option Held) (t : Tells byte 0 no_entry None (items_in s entries) inside (holder_of s holder)) (holds : HolderInside s holder)
     (repeated : Bool) (repeats : list_repeats byte_view s ≡ repeated) where
   abbrev all : Survey
   all = record { repeated = repeated; named = inside.named; filled = inside.filled; stride = inside.stride }
@@ -175,7 +183,7 @@ module _ (s : List ℕ) (byte : ℕ) (identifier : BlockRead) (names : block_of 
               first = first;
               whole = whole;
               items = listed;
-              are = t.are ∙ ap some (sym entries_are);
+              are = t.are ∙ ap Some (sym entries_are);
             });
         stride = λ l n h q.
             let i = is_listed_lem identifier entries all holder l n h q in
@@ -184,7 +192,7 @@ module _ (s : List ℕ) (byte : ℕ) (identifier : BlockRead) (names : block_of 
             let i = is_listed_lem identifier entries all holder l n h q in
             rw (i.list, i.held, entries_are) (held_is s holder holds ∙ sym (t.first refl));
         holding = λ l n h q.
-            let i = is_listed_lem identifier entries all holder l n (holder-answer.Entry h) q in
+            let i = is_listed_lem identifier entries all holder l n (Some h) q in
             let here = holds.held h (sym i.held) in
             let among = t.holding refl h.number (drop h.at s) (ap (holder_of s) (sym i.held)) in
             let same : among.entry ≡ here.entry = cc (among.is, here.item) in
@@ -201,13 +209,13 @@ module _ (s : List ℕ) (byte : ℕ) (identifier : BlockRead) (names : block_of 
 -- ---- what is read
 
 module _ (s : List ℕ) (byte : ℕ) (r : ListRead) (read : ReadFor s byte r) where
-  pub reading_list : (l : listed.PackList) (n : ℕ) (h : Holder) → r ≡ list-answer.List l n h
-      → (reading_of s (reading-answer.List l) ≡ pack_list s) × ReadingInside s (reading-answer.List l)
+  pub reading_list : (l : listed.PackList) (n : ℕ) (h : Option Held) → r ≡ Ok (l, n, h)
+      → (reading_of s (Ok l) ≡ pack_list s) × ReadingInside s (Ok l)
   reading_list l n h e = (
     sym (ap (read_for s) e) ∙ read.reads,
     record { list = λ x q. let same : l ≡ x = cc in subst (ListInside s) same (read.inside l n h e) },
   )
 
-  pub reading_refused : (f : Fault) → r ≡ list-answer.Fault f
-      → (reading_of s (reading-answer.Refused f) ≡ pack_list s) × ReadingInside s (reading-answer.Refused f)
+  pub reading_refused : (f : Fault) → r ≡ Err f
+      → (reading_of s (Err f) ≡ pack_list s) × ReadingInside s (Err f)
   reading_refused f e = (sym (ap (read_for s) e) ∙ read.reads, record { list = λ x q. absurd_numbers (cc) })

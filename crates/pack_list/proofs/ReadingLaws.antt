@@ -1,7 +1,7 @@
 -- When a part reads as a pack list, and as which: the account of specs/, both ways.
 use Rattle.std.specs.Prelude.{ℕ, Bool, true, false, ◌↔◌, ◌≡◌, ltb}
 use mathlib.Core.List.{List}
-use Rattle.std.proofs.Math.Option.{Option, none, some}
+use Rattle.std.specs.Prelude.{Option, None, Some}
 use Rattle.std.proofs.Math.Path.{refl}
 use Rattle.std.proofs.Common.{sym, subst, ◌∙◌}
 use Rattle.slices.specs.Logic.{absurd_numbers}
@@ -19,7 +19,7 @@ module _ (s : List ℕ) (l : PackList) where
   list_reads : pack_list s ≡ granted l → ListReads s l
   list_reads h = by (block s) refl (entries_under byte_view s) refl (list_repeats byte_view s) refl (sym (list_together s) ∙ h)
     where
-      ruled : (i : Identity) (es : List Entry) → block s ≡ granted i → entries_under byte_view s ≡ some es → list_repeats byte_view s ≡ false
+      ruled : (i : Identity) (es : List Entry) → block s ≡ granted i → entries_under byte_view s ≡ Some es → list_repeats byte_view s ≡ false
           → (t : Bool) → all_of (λ (e : Entry). is_ulid e.pack) es ≡ t → (u : Bool) → all_of is_filled es ≡ u
           → if_so t 18 (if_so u 21 (granted (record { identifier = i; entries = es }))) ≡ granted l → ListReads s l
       ruled i es b o r true p true f e =
@@ -38,9 +38,9 @@ module _ (s : List ℕ) (l : PackList) where
       by : (a : Answer Identity) → block s ≡ a → (entries : Option (List Entry)) → entries_under byte_view s ≡ entries
           → (repeated : Bool) → list_repeats byte_view s ≡ repeated → combined a entries repeated ≡ granted l → ListReads s l
       by (refused n) b entries o repeated r e = absurd (never n (ltb n 18) entries repeated e)
-      by (granted i) b none o repeated r e = absurd_numbers (cc)
-      by (granted i) b (some es) o true r e = absurd_numbers (cc)
-      by (granted i) b (some es) o false r e =
+      by (granted i) b None o repeated r e = absurd_numbers (cc)
+      by (granted i) b (Some es) o true r e = absurd_numbers (cc)
+      by (granted i) b (Some es) o false r e =
           ruled i es b o r (all_of (λ (e : Entry). is_ulid e.pack) es) refl (all_of is_filled es) refl e
 
   reads_list : ListReads s l → pack_list s ≡ granted l

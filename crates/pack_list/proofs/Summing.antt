@@ -1,12 +1,14 @@
 -- The sums of the deltas of an entry: with one delta more they are within 64 bits, or told not to be; a sum that is not stays so.
-use Prim.Native.Nat.{ℕ, zero, suc, ◌+◌, ◌-◌, ◌/◌, ◌≤◌, ◌<◌}
+use Prim.Native.Nat.{ℕ, zero, suc, ◌+◌, ◌-◌, ◌*◌, ◌/◌, ◌≤◌, ◌<◌}
 use mathlib.Core.Bool.{Bool, true, false, ◌&&◌}
 use mathlib.Core.List.{List, [], ◌∷◌, ◌++◌, map, append-nil}
 use mathlib.Core.Logic.{◌⊎◌, inl, inr, ⊎_elim}
-use mathlib.Core.Option.{Option, none, some}
+use Rattle.std.specs.Prelude.{Option, None, Some}
 use mathlib.Core.Path.{◌≡◌, refl, sym, ap, subst, ◌∙◌}
-use native.Mathlib.Numerals.{add-one}
+use native.Mathlib.Nat.{div-lt_iff_lt-mul}
 use native.Mathlib.Omega.{arith}
+use Rattle.std.specs.Int.{div_ceil}
+use Rattle.std.proofs.lemmas.Grind.{div_ceil_times}
 use borrow.Author.Tests.{ltb-true, ltb-false, leb-true, leb-false, le-leb, lt-leb}
 use lib.Dec.{ltb, leb}
 use lib.ListN.{length, take, drop, length-append}
@@ -20,18 +22,27 @@ use Rattle.pack_list.specs.Lists.{each_of, sum, greatest}
 use Rattle.pack_list.specs.Blocks.{gain, loss, ceiling}
 use Rattle.pack_list.specs.declared.Numbers.{Numbers}
 use Rattle.pack_list.specs.declared.Sums.{Sums}
-use Rattle.pack_list.specs.declared.Deltas.TheVariants as deltas-answer
 use Rattle.pack_list.specs.Answers.{items_in, SumsAre, WithDelta, AreSummed, DeltasSummed}
 use Rattle.pack_list.specs.Walks.{each_on, each_stops, none_left}
 
-pub ceiling_above : (a n : ℕ) → (a ≡ 0 → ⊥) → 0 < n → (a - 1) / n + 1 ≡ ceiling a (n - 1)
+-- ---- a quotient rounded up
+
+by_bounds : (q a n : ℕ) → a ≤ q * suc n → q * suc n < a + suc n → q ≡ ceiling a n
 unfolding ceiling
-ceiling_above zero n h p = absurd (h refl)
-ceiling_above (suc a) zero h p = absurd (omega arith)
-ceiling_above (suc a) (suc n) h p =
-    let above : suc a - 1 ≡ a = omega arith in
+by_bounds zero zero n h k = refl
+by_bounds (suc q) zero n h k = absurd (omega arith)
+by_bounds zero (suc a) n h k = absurd (omega arith)
+by_bounds (suc q) (suc a) n h k =
+    let most : a / suc n < suc q = (div-lt_iff_lt-mul {k = suc n} (omega arith)).1 (omega arith) in
+    let least : a / suc n < q → ⊥ = λ l. let m = (div-lt_iff_lt-mul {k = suc n} (omega arith)).0 l in omega arith in
+    omega (arith, most, least)
+
+pub ceiling_is : (a n : ℕ) → 0 < n → div_ceil a n ≡ ceiling a (n - 1)
+ceiling_is a zero h = absurd (omega arith)
+ceiling_is a (suc n) h =
     let blocks : suc n - 1 ≡ n = omega arith in
-    rw (above, blocks) (add-one (a / suc n))
+    let b = div_ceil_times a (suc n) h in
+    rw blocks (by_bounds _ a n b.0 b.1)
 
 -- ---- two sums within 64 bits
 
@@ -157,13 +168,13 @@ module _ (s : List ℕ) (n : Numbers) (blocks source : ℕ) where
       }
     where
       alone : (o : Option (List Int)) → o ≡ over (λ ds. [] ++ ds) o
-      alone (some ds) = refl
-      alone none = refl
+      alone (Some ds) = refl
+      alone None = refl
 
   -- the delta that stands at a place was read, and added where it belongs to a block
   pub record DeltaAdded (at k : ℕ) (old new : Sums) : Type 0 where
     pub delta : Int
-    pub is : read_integer (drop at s) ≡ some delta
+    pub is : read_integer (drop at s) ≡ Some delta
     pub added : k < blocks → WithDelta delta old new
     pub passed : blocks ≤ k → new ≡ old
 
@@ -182,8 +193,8 @@ module _ (s : List ℕ) (n : Numbers) (blocks source : ℕ) where
     where
       in_front : (o : Option (List Int))
           → over (λ ds. t.deltas ++ ds) (over (λ ds. d.delta ∷ ds) o) ≡ over (λ ds. (t.deltas ++ d.delta ∷ []) ++ ds) o
-      in_front (some ds) = ap some (sym (append_snoc t.deltas d.delta ds))
-      in_front none = refl
+      in_front (Some ds) = ap Some (sym (append_snoc t.deltas d.delta ds))
+      in_front None = refl
 
       counts : k < blocks → SumsAre source (take blocks (t.deltas ++ d.delta ∷ [])) new
       counts l =
@@ -197,22 +208,22 @@ module _ (s : List ℕ) (n : Numbers) (blocks source : ℕ) where
           let c = t.count in
           rw (take-append-le blocks t.deltas (d.delta ∷ []) (omega arith), d.passed l) t.are
 
-  pub none_is : (at k : ℕ) (sums : Sums) → SummedTo at k sums → k < n.count → read_integer (drop at s) ≡ none
-      → DeltasSummed (items_in s n) blocks source deltas-answer.Missing
+  pub none_is : (at k : ℕ) (sums : Sums) → SummedTo at k sums → k < n.count → read_integer (drop at s) ≡ None
+      → DeltasSummed (items_in s n) blocks source None
   none_is at k sums t h e =
       record {
         summed = λ x same. absurd_numbers (cc);
         missing = λ same. t.rest ∙ rw (each_stops read_integer s at (n.count - k) _ (omega arith) refl e);
       }
 
-  pub all_summed : (at k : ℕ) (sums : Sums) → SummedTo at k sums → n.count ≤ k → DeltasSummed (items_in s n) blocks source (deltas-answer.Summed sums)
+  pub all_summed : (at k : ℕ) (sums : Sums) → SummedTo at k sums → n.count ≤ k → DeltasSummed (items_in s n) blocks source (Some sums)
   all_summed at k sums t h =
       record {
         summed = λ x same.
             let is : sums ≡ x = cc in
             subst (AreSummed (items_in s n) blocks source) is (record {
               deltas = t.deltas;
-              are = t.rest ∙ rw (none_left read_integer (drop at s) (n.count - k) (omega arith)) (ap some (append-nil t.deltas));
+              are = t.rest ∙ rw (none_left read_integer (drop at s) (n.count - k) (omega arith)) (ap Some (append-nil t.deltas));
               sums = t.are;
             });
         missing = λ same. absurd_numbers (cc);

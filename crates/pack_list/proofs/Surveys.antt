@@ -2,7 +2,7 @@
 use Prim.Native.Nat.{ℕ, suc, ◌+◌, ◌-◌, ◌≤◌, ◌<◌}
 use mathlib.Core.Bool.{Bool, true, false, cond, ◌&&◌, ◌||◌}
 use mathlib.Core.List.{List, [], ◌∷◌}
-use mathlib.Core.Option.{Option, none, some}
+use Rattle.std.specs.Prelude.{Option, None, Some}
 use mathlib.Core.Path.{◌≡◌, refl, sym, ap, subst, ◌∙◌}
 use native.Mathlib.Numerals.{add-one}
 use native.Mathlib.Omega.{arith}
@@ -21,13 +21,10 @@ use Rattle.pack_list.specs.Blocks.{is_counted, stride_for, larger, stride, is_in
 use Rattle.pack_list.specs.declared.Numbers.{Numbers}
 use Rattle.pack_list.specs.declared.Entry as placed
 use Rattle.pack_list.specs.declared.Tests.{Tests}
-use Rattle.pack_list.specs.declared.EntryRead.TheVariants as entry-answer
 use Rattle.pack_list.specs.declared.Survey.{Survey}
 use Rattle.pack_list.specs.declared.Held.{Held}
-use Rattle.pack_list.specs.declared.Holder.{Holder}
-use Rattle.pack_list.specs.declared.Holder.TheVariants as holder-answer
-use Rattle.pack_list.specs.declared.Surveyed.TheVariants as surveyed-answer
-use Rattle.pack_list.specs.Answers.{items_in, WholeItems, entry_of, told_of, told_in, entry_told, EntryHere, with_tests, holder_with, holder_of, or_else, held_by, survey_from, no_entry, surveyed, survey_of, HeldHere, HolderInside, SurveyedInside}
+use Rattle.refusals.specs.Answers.{or_else}
+use Rattle.pack_list.specs.Answers.{items_in, WholeItems, entry_of, told_of, told_in, entry_told, EntryHere, with_tests, holder_with, holder_of, held_by, survey_from, no_entry, surveyed, survey_of, HeldHere, HolderInside, SurveyedInside}
 use Rattle.pack_list.specs.Walks.{items_on, first_whole, others_whole, entry_is}
 use Rattle.pack_list.proofs.Entries.{told_entry, tests_tell}
 
@@ -39,25 +36,25 @@ held_here number at e t = record { number = number; at = at; entry = e; blocks =
 
 -- with one entry more
 module _ (s : List ℕ) (h : Held) where
-  holder_more : (holder : Holder) (held : Bool)
-      → holder_of s (holder_with holder held h) ≡ or_else (holder_of s holder) (cond held (some (h.number, drop h.at s)) none)
-  holder_more holder-answer.None true = refl
-  holder_more holder-answer.None false = refl
-  holder_more (holder-answer.Entry x) held = refl
+  holder_more : (holder : Option Held) (held : Bool)
+      → holder_of s (holder_with holder held h) ≡ or_else (holder_of s holder) (cond held (Some (h.number, drop h.at s)) None)
+  holder_more None true = refl
+  holder_more None false = refl
+  holder_more (Some x) held = refl
 
-  inside_more : (holder : Holder) (held : Bool) → HolderInside s holder → HeldHere s h → HolderInside s (holder_with holder held h)
-  inside_more holder-answer.None true i w = record { held = λ x e. let same : h ≡ x = cc in subst (HeldHere s) same w }
-  inside_more holder-answer.None false i w = i
-  inside_more (holder-answer.Entry x) held i w = i
+  inside_more : (holder : Option Held) (held : Bool) → HolderInside s holder → HeldHere s h → HolderInside s (holder_with holder held h)
+  inside_more None true i w = record { held = λ x e. let same : h ≡ x = cc in subst (HeldHere s) same w }
+  inside_more None false i w = i
+  inside_more (Some x) held i w = i
 
 module _ (s : List ℕ) (n : Numbers) (byte : ℕ) where
-  pub record SurveyedTo (at k : ℕ) (all : Survey) (holder : Holder) : Type 0 where
+  pub record SurveyedTo (at k : ℕ) (all : Survey) (holder : Option Held) : Type 0 where
     pub most : k ≤ n.count
     pub rest : surveyed byte (items_in s n) ≡ survey_from byte k all (holder_of s holder) (items_from (n.count - k) (drop at s))
     pub whole : WholeItems (n.count - k) (drop at s)
     pub inside : HolderInside s holder
 
-  pub none_surveyed : WholeItems n.count (drop n.first s) → SurveyedTo n.first 0 no_entry holder-answer.None
+  pub none_surveyed : WholeItems n.count (drop n.first s) → SurveyedTo n.first 0 no_entry None
   unfolding surveyed
   none_surveyed w =
       let same : n.count - 0 ≡ n.count = omega arith in
@@ -68,21 +65,25 @@ module _ (s : List ℕ) (n : Numbers) (byte : ℕ) where
         inside = record { held = λ x e. absurd_numbers (cc) };
       }
 
-  module _ (at k : ℕ) (all : Survey) (holder : Holder) (t : SurveyedTo at k all holder) where
+  module _ (at k : ℕ) (all : Survey) (holder : Option Held) (t : SurveyedTo at k all holder) where
     pub surveyed_all : n.count ≤ k
-        → (survey_of s (surveyed-answer.Entries all holder) ≡ surveyed byte (items_in s n)) × SurveyedInside s (surveyed-answer.Entries all holder)
+        → (survey_of s (Some (all, holder)) ≡ surveyed byte (items_in s n)) × SurveyedInside s (Some (all, holder))
     unfolding survey_from items_from
     surveyed_all h =
         let last : n.count - k ≡ 0 = omega arith in (
           sym (t.rest ∙ rw last),
-          record { holder = λ x y z. let same : holder ≡ y = cc in subst (HolderInside s) same t.inside },
+          record {
+            holder = λ x y z.
+                let same : ◌≡◌ {A = Survey × Option Held} (all, holder) (x, y) = cc in
+                subst (HolderInside s) (ap (λ (r : Survey × Option Held). r.1) same) t.inside;
+          },
         )
 
     module _ (h : k < n.count) where
       pub entry_whole : WholeItem (drop at s)
       entry_whole = first_whole (n.count - k) (drop at s) (omega arith) t.whole
 
-      pub entry_missing : none ≡ entry_told (drop at s) → (none ≡ surveyed byte (items_in s n)) × SurveyedInside s surveyed-answer.Not
+      pub entry_missing : None ≡ entry_told (drop at s) → (None ≡ surveyed byte (items_in s n)) × SurveyedInside s None
       unfolding survey_from
       entry_missing e = (
         sym (t.rest ∙ rw (items_on s at (n.count - k) _ (omega arith) refl, ← e)),
@@ -90,21 +91,21 @@ module _ (s : List ℕ) (n : Numbers) (byte : ℕ) where
       )
 
       -- the item ends within the part
-      pub entry_ends : (e : placed.Entry) (x : Tests) → told_in s (entry-answer.Entry e x) ≡ entry_told (drop at s) → (entry_of s e ≡ none → ⊥)
+      pub entry_ends : (e : placed.Entry) (x : Tests) → told_in s (Some (e, x)) ≡ entry_told (drop at s) → (entry_of s e ≡ None → ⊥)
           → at + x.size ≤ length s
       entry_ends e x told there = go (entry_of s e) refl
         where
           go : (o : Option Entry) → entry_of s e ≡ o → at + x.size ≤ length s
-          go none q = absurd (there q)
-          go (some y) q =
+          go None q = absurd (there q)
+          go (Some y) q =
               let w = entry_whole in
               let taken = bounded depth_allowed (drop at s) w.size w.is in
               let size : x.size ≡ w.size = (tests_tell s (drop at s) e x y told q).size ∙ ap size_of w.is in
               omega (arith, size, taken.some_byte, taken.within, length-drop at s)
 
-      pub one_surveyed : (e : placed.Entry) (x : Tests) → told_in s (entry-answer.Entry e x) ≡ entry_told (drop at s) → EntryHere s at e
+      pub one_surveyed : (e : placed.Entry) (x : Tests) → told_in s (Some (e, x)) ≡ entry_told (drop at s) → EntryHere s at e
           → (noted : Survey) → noted ≡ with_tests all x
-          → (held : Holder) → held ≡ holder_with holder (is_in e.source byte) (held_here k at e x)
+          → (held : Option Held) → held ≡ holder_with holder (is_in e.source byte) (held_here k at e x)
           → (next : ℕ) → next ≡ at + x.size → SurveyedTo next (k + 1) noted held
       unfolding survey_from holds
       one_surveyed e x told here noted a held b next c = go (entry_of s e) refl
@@ -113,9 +114,9 @@ module _ (s : List ℕ) (n : Numbers) (byte : ℕ) where
           left = omega arith
 
           go : (o : Option Entry) → entry_of s e ≡ o → SurveyedTo next (k + 1) noted held
-          go none q = absurd (here.there q)
-          go (some y) q =
-              let tells : entry_told (drop at s) ≡ some (record { entry = y; tests = x }) = sym (rw q at told) in
+          go None q = absurd (here.there q)
+          go (Some y) q =
+              let tells : entry_told (drop at s) ≡ Some (record { entry = y; tests = x }) = sym (rw q at told) in
               let source = (entry_is s e y q).source in
               let tests = tests_tell s (drop at s) e x y told q in
               let behind : next ≡ at + size_of (pass_over (drop at s)) = c ∙ ap (λ (m : ℕ). at + m) tests.size in
@@ -164,7 +165,7 @@ and_true : (a : Bool) → (a && true) ≡ a
 and_true true = refl
 and_true false = refl
 
-some_pair : {A B : Type 0} (a c : A) (b d : B) → ◌≡◌ {A = Option (A × B)} (some (a, b)) (some (c, d)) → (a ≡ c) × (b ≡ d)
+some_pair : {A B : Type 0} (a c : A) (b d : B) → ◌≡◌ {A = Option (A × B)} (Some (a, b)) (Some (c, d)) → (a ≡ c) × (b ≡ d)
 some_pair {A} {B} a c b d e = let pair : ◌≡◌ {A = A × B} (a, b) (c, d) = cc in (ap (λ (x : A × B). x.0) pair, ap (λ (x : A × B). x.1) pair)
 
 -- of items the first of which has a number, the one of the number k: an entry that holds the byte, and is filled where all of these are
@@ -173,37 +174,37 @@ pub record HeldAmong (byte number : ℕ) (items : List (List ℕ)) (entries : Li
   pub counted : k ≡ number + index
   pub item : m ≡ get_or items index []
   pub entry : Entry
-  pub is : entry_at byte_view m ≡ some entry
+  pub is : entry_at byte_view m ≡ Some entry
   pub holds : holds entry byte ≡ true
   pub filled : all_of is_filled entries ≡ true → is_filled entry ≡ true
 
 -- the entry that an item is
 abbrev pub entry_held : Option (ℕ × List ℕ) → Option (ℕ × Entry)
-entry_held none = none
-entry_held (some h) = over (λ e. (h.0, e)) (entry_at byte_view h.1)
+entry_held None = None
+entry_held (Some h) = over (λ e. (h.0, e)) (entry_at byte_view h.1)
 
 module _ (byte : ℕ) where
   -- by the entries that these items are, after those that were surveyed
   pub record Tells (number : ℕ) (before : Survey) (holder : Option (ℕ × List ℕ)) (items : List (List ℕ)) (all : Survey)
       (held : Option (ℕ × List ℕ)) : Type 0 where
     pub entries : List Entry
-    pub are : each_of (entry_at byte_view) items ≡ some entries
+    pub are : each_of (entry_at byte_view) items ≡ Some entries
     pub repeated : all.repeated ≡ (before.repeated || any_of (entry_repeats byte_view) items)
     pub named : all.named ≡ (before.named && all_of (λ (e : Entry). is_ulid e.pack) entries)
     pub filled : all.filled ≡ (before.filled && all_of is_filled entries)
     pub strided : all.stride ≡ larger before.stride (stride entries)
-    pub kept : (h : ℕ × List ℕ) → holder ≡ some h → held ≡ some h
-    pub first : holder ≡ none → holder_from byte number entries ≡ entry_held held
-    pub holding : holder ≡ none → (k : ℕ) (m : List ℕ) → held ≡ some (k, m) → HeldAmong byte number items entries k m
+    pub kept : (h : ℕ × List ℕ) → holder ≡ Some h → held ≡ Some h
+    pub first : holder ≡ None → holder_from byte number entries ≡ entry_held held
+    pub holding : holder ≡ None → (k : ℕ) (m : List ℕ) → held ≡ Some (k, m) → HeldAmong byte number items entries k m
 
   module _ (number : ℕ) (before : Survey) (holder : Option (ℕ × List ℕ)) (m : List ℕ) (ms : List (List ℕ)) (all : Survey) (held : Option (ℕ × List ℕ))
-      (y : Entry) (is : entry_at byte_view m ≡ some y)
+      (y : Entry) (is : entry_at byte_view m ≡ Some y)
       (r : Tells (suc number) (with_tests before (told_of y (entry_repeats byte_view m) (size_of (pass_over m))).tests) (or_else holder (held_by byte number m y)) ms all held) where
     -- the first of them holds the byte, and is kept
-    first_held : holder ≡ none → holds y byte ≡ true → held ≡ some (number, m)
+    first_held : holder ≡ None → holds y byte ≡ true → held ≡ Some (number, m)
     first_held q h = r.kept (number, m) (rw (q, h))
 
-    first_not : holder ≡ none → holds y byte ≡ false → or_else holder (held_by byte number m y) ≡ none
+    first_not : holder ≡ None → holds y byte ≡ false → or_else holder (held_by byte number m y) ≡ None
     first_not q h = rw (q, h)
 
     one_tells : Tells number before holder (m ∷ ms) all held
@@ -221,12 +222,12 @@ module _ (byte : ℕ) where
           holding = λ q k x z. held_first q k x z (holds y byte) refl;
         }
       where
-        found_first : holder ≡ none → (t : Bool) → holds y byte ≡ t
-            → cond t (some (number, y)) (holder_from byte (suc number) r.entries) ≡ entry_held held
+        found_first : holder ≡ None → (t : Bool) → holds y byte ≡ t
+            → cond t (Some (number, y)) (holder_from byte (suc number) r.entries) ≡ entry_held held
         found_first q true h = rw (first_held q h, is)
         found_first q false h = r.first (first_not q h)
 
-        held_first : holder ≡ none → (k : ℕ) (x : List ℕ) → held ≡ some (k, x) → (t : Bool) → holds y byte ≡ t
+        held_first : holder ≡ None → (k : ℕ) (x : List ℕ) → held ≡ Some (k, x) → (t : Bool) → holds y byte ≡ t
             → HeldAmong byte number (m ∷ ms) (y ∷ r.entries) k x
         held_first q k x z true h =
             let same = some_pair number k m x (sym (first_held q h) ∙ z) in
@@ -255,7 +256,7 @@ module _ (byte : ℕ) where
             }
 
   survey_tells : (number : ℕ) (before : Survey) (holder : Option (ℕ × List ℕ)) (items : List (List ℕ)) (all : Survey) (held : Option (ℕ × List ℕ))
-      → survey_from byte number before holder items ≡ some (all, held) → Tells number before holder items all held
+      → survey_from byte number before holder items ≡ Some (all, held) → Tells number before holder items all held
   unfolding survey_from each_of any_of all_of stride holder_from entry_told told_of
   survey_tells number before holder [] all held e =
       let same = some_pair before all holder held e in
@@ -276,28 +277,28 @@ module _ (byte : ℕ) where
       by (entry_at byte_view m) refl (λ b h f. survey_tells (suc number) b h ms all held f)
     where
       by : (o : Option Entry) → entry_at byte_view m ≡ o
-          → ((b : Survey) (h : Option (ℕ × List ℕ)) → survey_from byte (suc number) b h ms ≡ some (all, held) → Tells (suc number) b h ms all held)
+          → ((b : Survey) (h : Option (ℕ × List ℕ)) → survey_from byte (suc number) b h ms ≡ Some (all, held) → Tells (suc number) b h ms all held)
           → Tells number before holder (m ∷ ms) all held
-      by none q rest = let nothing = rw q at e in absurd_numbers (cc)
-      by (some y) q rest = one_tells number before holder m ms all held y q (rest _ _ (rw q at e))
+      by None q rest = let nothing = rw q at e in absurd_numbers (cc)
+      by (Some y) q rest = one_tells number before holder m ms all held y q (rest _ _ (rw q at e))
 
   none_tells : (number : ℕ) (before : Survey) (holder : Option (ℕ × List ℕ)) (items : List (List ℕ))
-      → survey_from byte number before holder items ≡ none → each_of (entry_at byte_view) items ≡ none
+      → survey_from byte number before holder items ≡ None → each_of (entry_at byte_view) items ≡ None
   unfolding survey_from each_of entry_told
   none_tells number before holder [] e = absurd_numbers (cc)
   none_tells number before holder (m ∷ ms) e = by (entry_at byte_view m) refl (λ b h f. none_tells (suc number) b h ms f)
     where
       by : (o : Option Entry) → entry_at byte_view m ≡ o
-          → ((b : Survey) (h : Option (ℕ × List ℕ)) → survey_from byte (suc number) b h ms ≡ none → each_of (entry_at byte_view) ms ≡ none)
-          → (if_there o λ y. over (λ ys. y ∷ ys) (each_of (entry_at byte_view) ms)) ≡ none
-      by none q rest = refl
-      by (some y) q rest = rw (rest _ _ (rw q at e))
+          → ((b : Survey) (h : Option (ℕ × List ℕ)) → survey_from byte (suc number) b h ms ≡ None → each_of (entry_at byte_view) ms ≡ None)
+          → (if_there o λ y. over (λ ys. y ∷ ys) (each_of (entry_at byte_view) ms)) ≡ None
+      by None q rest = refl
+      by (Some y) q rest = rw (rest _ _ (rw q at e))
 
-  pub all_surveyed : (items : List (List ℕ)) (all : Survey) (held : Option (ℕ × List ℕ)) → some (all, held) ≡ surveyed byte items
-      → Tells 0 no_entry none items all held
+  pub all_surveyed : (items : List (List ℕ)) (all : Survey) (held : Option (ℕ × List ℕ)) → Some (all, held) ≡ surveyed byte items
+      → Tells 0 no_entry None items all held
   unfolding surveyed
-  all_surveyed items all held e = survey_tells 0 no_entry none items all held (sym e)
+  all_surveyed items all held e = survey_tells 0 no_entry None items all held (sym e)
 
-  pub not_surveyed : (items : List (List ℕ)) → none ≡ surveyed byte items → each_of (entry_at byte_view) items ≡ none
+  pub not_surveyed : (items : List (List ℕ)) → None ≡ surveyed byte items → each_of (entry_at byte_view) items ≡ None
   unfolding surveyed
-  not_surveyed items e = none_tells 0 no_entry none items (sym e)
+  not_surveyed items e = none_tells 0 no_entry None items (sym e)

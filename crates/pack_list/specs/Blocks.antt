@@ -1,7 +1,7 @@
 -- The blocks of an entry, the stride of a list, and the entry that holds a byte of the version (request 1; docs/FORMAT.md, Table 8). Document 001 speaks
 -- of "the version's normal stride" and gives the list no key for it: it is found from the list.
 use Rattle.std.specs.Prelude.{ℕ, zero, suc, ◌+◌, ◌-◌, ◌/◌, Bool, cond, ◌&&◌, List, [], ◌∷◌, map, ltb, leb, length, take}
-use Rattle.std.proofs.Math.Option.{Option, none, some}
+use Rattle.std.specs.Prelude.{Option, None, Some}
 use Rattle.msgpack.specs.Readers.{Int, plus, minus}
 use Rattle.pack_list.specs.declared.Range.{Range}
 use Rattle.pack_list.specs.Lists.{Entry, sum, greatest}
@@ -74,5 +74,5 @@ holds e byte = is_in e.source byte
 
 -- the first of these entries that holds the byte, with its number; the first of all of them has a number
 unfoldable pub holder_from : ℕ → ℕ → List Entry → Option (ℕ × Entry)
-holder_from byte number [] = none
-holder_from byte number (e ∷ es) = cond (holds e byte) (some (number, e)) (holder_from byte (suc number) es)
+holder_from byte number [] = None
+holder_from byte number (e ∷ es) = cond (holds e byte) (Some (number, e)) (holder_from byte (suc number) es)

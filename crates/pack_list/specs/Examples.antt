@@ -1,6 +1,6 @@
 -- Entries with their blocks and strides, and parts that are read or refused; antt computes every answer.
 use Rattle.std.specs.Prelude.{ℕ, ◌+◌, ◌-◌, List, [], ◌∷◌, ◌++◌, map, ◌≡◌, refl, length, replicate}
-use Rattle.std.proofs.Math.Option.{none, some}
+use Rattle.std.specs.Prelude.{None, Some}
 use Rattle.slices.specs.Bytes.{same_bytes}
 use Rattle.refusals.specs.Answers.{Answer, refused, granted}
 use Rattle.endian.specs.Numbers.{little, big}
@@ -100,7 +100,7 @@ strides_hold = refl
 -- ---- the entry that holds a byte
 
 pub holders : map (λ (byte : ℕ). holder_from byte 0 (twenty ∷ in_three 10 [] ∷ [])) (0 ∷ 19 ∷ 20 ∷ 34 ∷ 35 ∷ [])
-    ≡ some (0, twenty) ∷ some (0, twenty) ∷ some (1, in_three 10 []) ∷ some (1, in_three 10 []) ∷ none ∷ []
+    ≡ Some (0, twenty) ∷ Some (0, twenty) ∷ Some (1, in_three 10 []) ∷ Some (1, in_three 10 []) ∷ None ∷ []
 unfolding finding.holds holder_from
 holders = refl
 

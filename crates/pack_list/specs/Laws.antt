@@ -1,6 +1,6 @@
 -- A pack list by its two halves: what a block's reader answers of the same part, and its entries. 17 and 22 are decided over both before the rules.
 use Rattle.std.specs.Prelude.{ℕ, Bool, true, false, cond, ◌||◌, List, ◌≡◌, refl, ltb}
-use Rattle.std.proofs.Math.Option.{Option, none, some}
+use Rattle.std.specs.Prelude.{Option, None, Some}
 use Rattle.refusals.specs.Answers.{Answer, refused, granted, or_refused, if_once}
 use Rattle.msgpack.specs.Views.{byte_view}
 use Rattle.identifier.specs.Ulid.{is_ulid}
@@ -22,22 +22,22 @@ combined (granted i) entries repeated = or_refused 17 entries λ es. if_once rep
 
 pub together : (shape : Option Shape) (entries : Option (List Entry)) (in_block in_list : Bool)
     → pack_list_by shape entries (in_block || in_list) ≡ combined (block_by shape in_block) entries in_list
-together none entries in_block in_list = refl
-together (some i) none true in_list = refl
-together (some i) none false in_list = go (identity_by i)
+together None entries in_block in_list = refl
+together (Some i) None true in_list = refl
+together (Some i) None false in_list = go (identity_by i)
   where
-    go : (identifier : Option Identity) → refused 17 ≡ combined (or_refused 18 identifier granted) none in_list
-    go (some j) = refl
-    go none = refl
-together (some i) (some es) true true = refl
-together (some i) (some es) true false = refl
-together (some i) (some es) false in_list = go (identity_by i) in_list
+    go : (identifier : Option Identity) → refused 17 ≡ combined (or_refused 18 identifier granted) None in_list
+    go (Some j) = refl
+    go None = refl
+together (Some i) (Some es) true true = refl
+together (Some i) (Some es) true false = refl
+together (Some i) (Some es) false in_list = go (identity_by i) in_list
   where
     go : (identifier : Option Identity) (repeated : Bool)
-        → if_once repeated (or_refused 18 identifier λ j. list_of j es) ≡ combined (or_refused 18 identifier granted) (some es) repeated
-    go (some j) repeated = refl
-    go none true = refl
-    go none false = refl
+        → if_once repeated (or_refused 18 identifier λ j. list_of j es) ≡ combined (or_refused 18 identifier granted) (Some es) repeated
+    go (Some j) repeated = refl
+    go None true = refl
+    go None false = refl
 
 -- so of a whole part
 pub list_together : (s : List ℕ) → pack_list s ≡ combined (block s) (entries_under byte_view s) (list_repeats byte_view s)

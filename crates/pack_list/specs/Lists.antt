@@ -1,7 +1,7 @@
 -- The primary part of a pack list (document 001, "Pack Lists"; request 1; docs/FORMAT.md, Table 8): which range of a version lies in which range
 -- of which pack.
 use Rattle.std.specs.Prelude.{ℕ, ◌+◌, ◌-◌, ◌^◌, Bool, true, false, cond, ◌&&◌, ◌||◌, List, [], ◌∷◌, leb}
-use Rattle.std.proofs.Math.Option.{Option, none, some}
+use Rattle.std.specs.Prelude.{Option, None, Some}
 use Rattle.refusals.specs.Answers.{Answer, refused, granted, or_refused, if_once}
 use Rattle.msgpack.specs.Readers.{Int}
 use Rattle.msgpack.specs.Lookup.{Under, found, missing, broken, at_place, if_there, over}
@@ -70,7 +70,7 @@ pub record PackList : Type 0 where
 
 -- of each, where it can be told of all
 unfoldable pub each_of : {A B : Type 0} → (A → Option B) → List A → Option (List B)
-each_of read [] = some []
+each_of read [] = Some []
 each_of read (x ∷ xs) = if_there (read x) λ y. over (λ ys. y ∷ ys) (each_of read xs)
 
 module _ {I : Type 0} (view : View I) where
@@ -83,22 +83,22 @@ module _ {I : Type 0} (view : View I) where
 
   unfoldable pub range_at : I → Option Range
   range_at m =
-      if_there (natural_under view start_key m (some 0)) λ start.
-      if_there (natural_under view length_key m (some 0)) λ len.
-      some (range start len)
+      if_there (natural_under view start_key m (Some 0)) λ start.
+      if_there (natural_under view length_key m (Some 0)) λ len.
+      Some (range start len)
 
   -- the ranges must be there, in whatever form; an array that is absent is empty
   unfoldable pub entry_at : I → Option Entry
   entry_at m =
       if_there (text_under view pack_key m) λ pack.
-      if_there (at_place none range_at (view.under source_key m)) λ source.
-      if_there (at_place none range_at (view.under stored_key m)) λ stored.
-      if_there (at_place (some []) (list_at natural_at) (view.under lengths_key m)) λ lengths.
-      if_there (at_place (some []) (list_at view.integer) (view.under deltas_key m)) λ deltas.
-      some (record { pack = pack; source = source; stored = stored; lengths = lengths; deltas = deltas })
+      if_there (at_place None range_at (view.under source_key m)) λ source.
+      if_there (at_place None range_at (view.under stored_key m)) λ stored.
+      if_there (at_place (Some []) (list_at natural_at) (view.under lengths_key m)) λ lengths.
+      if_there (at_place (Some []) (list_at view.integer) (view.under deltas_key m)) λ deltas.
+      Some (record { pack = pack; source = source; stored = stored; lengths = lengths; deltas = deltas })
 
   unfoldable pub entries_under : I → Option (List Entry)
-  entries_under m = at_place (some []) (list_at entry_at) (view.under entries_key m)
+  entries_under m = at_place (Some []) (list_at entry_at) (view.under entries_key m)
 
 -- ---- 22: whether a key that is read repeats
 
@@ -117,8 +117,8 @@ module _ {I : Type 0} (view : View I) where
   entry_repeats m = repeats view entry_keys m || (range_repeats (view.under source_key m) || range_repeats (view.under stored_key m))
 
   abbrev pub items_repeat : Option (List I) → Bool
-  items_repeat (some items) = any_of entry_repeats items
-  items_repeat none = false
+  items_repeat (Some items) = any_of entry_repeats items
+  items_repeat None = false
 
   abbrev pub entries_repeat : Under I → Bool
   entries_repeat (found l) = items_repeat (view.items l)

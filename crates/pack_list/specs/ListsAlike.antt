@@ -1,7 +1,7 @@
 -- Pack lists that are seen alike read alike: the rules look at a part through its view alone.
 use Rattle.std.specs.Prelude.{ℕ, Bool, ◌||◌, List, [], ◌≡◌}
 use Rattle.std.proofs.Math.Bool.{true, false}
-use Rattle.std.proofs.Math.Option.{Option, none, some}
+use Rattle.std.specs.Prelude.{Option, None, Some}
 use Rattle.std.proofs.Math.Path.{refl, ap}
 use Rattle.std.proofs.Common.{sym, subst, ◌∙◌}
 use Rattle.slices.specs.Logic.{neither_so}
@@ -81,9 +81,9 @@ module _ {I J : Type 0} (v : View I) (w : View J) (R : I → J → Type 0) (alik
   -- none does, or nothing
 
   natural_alike : (key : List ℕ) (i : I) (j : J) → SameUnder R (v.under key i) (w.under key j)
-      → natural_under v key i (some 0) ≡ natural_under w key j (some 0)
+      → natural_under v key i (Some 0) ≡ natural_under w key j (Some 0)
   unfolding natural_under
-  natural_alike key i j same = under_alike (some 0) _ _ same λ a b q r. ap at_least_zero (alike.integer r)
+  natural_alike key i j same = under_alike (Some 0) _ _ same λ a b q r. ap at_least_zero (alike.integer r)
 
   module _ (Assumed : Bool → Type 0) (split : (a b : Bool) → Assumed (a || b) → Assumed a × Assumed b)
       (keys : (ks : List (List ℕ)) (i : I) (j : J) → R i j → Assumed (repeats v ks i) → SameKeys v w R ks i j) where
@@ -93,8 +93,8 @@ module _ {I J : Type 0} (v : View I) (w : View J) (R : I → J → Type 0) (alik
         let k = keys range_keys i j r h in
         rw (natural_alike start_key i j k.0, natural_alike length_key i j k.1.0)
 
-    range_under_lem : {o : Under I} {p : Under J} → SameUnder R o p → Assumed (range_repeats v o) → at_place none (range_at v) o ≡ at_place none (range_at w) p
-    range_under_lem same h = under_alike none (range_at v) (range_at w) same λ a b q r. range_alike a b r (subst Assumed (ap (range_repeats v) q) h)
+    range_under_lem : {o : Under I} {p : Under J} → SameUnder R o p → Assumed (range_repeats v o) → at_place None (range_at v) o ≡ at_place None (range_at w) p
+    range_under_lem same h = under_alike None (range_at v) (range_at w) same λ a b q r. range_alike a b r (subst Assumed (ap (range_repeats v) q) h)
 
     entry_alike : (i : I) (j : J) → R i j → Assumed (entry_repeats v i) → entry_at v i ≡ entry_at w j
     unfolding entry_repeats entry_at text_under list_at
@@ -103,12 +103,12 @@ module _ {I J : Type 0} (v : View I) (w : View J) (R : I → J → Type 0) (alik
         let m = split (range_repeats v (v.under source_key i)) (range_repeats v (v.under stored_key i)) n.1 in
         let k = keys entry_keys i j r n.0 in
         rw (
-          under_alike none v.text w.text k.0 (λ a b q x. alike.text x),
+          under_alike None v.text w.text k.0 (λ a b q x. alike.text x),
           range_under_lem k.1.0 m.0,
           range_under_lem k.1.1.0 m.1,
-          under_alike (some []) _ _ k.1.1.1.0
+          under_alike (Some []) _ _ k.1.1.1.0
               (λ a b q x. items_alike (natural_at v) (natural_at w) (λ c d y. ap at_least_zero (alike.integer y)) (alike.items x)),
-          under_alike (some []) _ _ k.1.1.1.1.0 (λ a b q x. items_alike v.integer w.integer (λ c d y. alike.integer y) (alike.items x)),
+          under_alike (Some []) _ _ k.1.1.1.1.0 (λ a b q x. items_alike v.integer w.integer (λ c d y. alike.integer y) (alike.items x)),
         )
 
     -- with what is assumed of each
@@ -129,7 +129,7 @@ module _ {I J : Type 0} (v : View I) (w : View J) (R : I → J → Type 0) (alik
     unfolding list_repeats entries_under list_at
     under_entries i j r h =
         let n = split (repeats v list_keys i) (entries_repeat v (v.under entries_key i)) h in
-        under_alike (some []) _ _ (keys list_keys i j r n.0).0 λ a b q x. entries_alike (alike.items x) (subst Assumed (ap (entries_repeat v) q) n.1)
+        under_alike (Some []) _ _ (keys list_keys i j r n.0).0 λ a b q x. entries_alike (alike.items x) (subst Assumed (ap (entries_repeat v) q) n.1)
 
     block_seen_lem : (i : I) (j : J) → R i j → Assumed (block_repeats v i) → block_seen v i ≡ block_seen w j
     unfolding block_repeats

@@ -3,7 +3,7 @@ use Rattle.std.specs.Prelude.{ℕ, ◌+◌, ◌≤◌, Bool, true, false, cond, 
 use mathlib.Core.List.Memᴰ
 use mathlib.Core.List.{List, [], ◌∷◌, Memᴰ}
 use Rattle.std.proofs.Math.Logic.{⊎_elim}
-use Rattle.std.proofs.Math.Option.{Option, none, some}
+use Rattle.std.specs.Prelude.{Option, None, Some}
 use Rattle.std.proofs.Math.Path.{refl, ap}
 use Rattle.std.proofs.Common.{◌∙◌, leb-true, le-leb}
 use Rattle.slices.specs.Logic.{absurd_numbers, both}
@@ -51,7 +51,7 @@ module _ {A : Type 0} (test : A → Bool) where
 
 pub record ListReads (s : List ℕ) (l : PackList) : Type 0 where
   pub names : BlockNames s l.identifier
-  pub there : entries_under byte_view s ≡ some l.entries
+  pub there : entries_under byte_view s ≡ Some l.entries
   pub once : list_repeats byte_view s ≡ false
   pub packs : (e : Entry) → Memᴰ e l.entries → is_ulid e.pack ≡ true
   pub filled : (e : Entry) → Memᴰ e l.entries → Filled e
@@ -59,6 +59,6 @@ pub record ListReads (s : List ℕ) (l : PackList) : Type 0 where
 pub never : {l : PackList} (n : ℕ) (t : Bool) (entries : Option (List Entry)) (repeated : Bool)
     → cond t (refused n) (or_refused 17 entries λ es. if_once repeated (refused n)) ≡ granted l → ⊥
 never n true entries repeated e = absurd_numbers (cc)
-never n false none repeated e = absurd_numbers (cc)
-never n false (some es) true e = absurd_numbers (cc)
-never n false (some es) false e = absurd_numbers (cc)
+never n false None repeated e = absurd_numbers (cc)
+never n false (Some es) true e = absurd_numbers (cc)
+never n false (Some es) false e = absurd_numbers (cc)

@@ -2,7 +2,7 @@
 use Prim.Native.Nat.{ℕ, zero, suc, ◌+◌, ◌-◌, ◌^◌, ◌≤◌, ◌<◌, min}
 use mathlib.Core.Bool.{Bool, true, false, cond}
 use mathlib.Core.List.{List, [], ◌∷◌, ◌++◌, append-nil}
-use mathlib.Core.Option.{Option, none, some}
+use Rattle.std.specs.Prelude.{Option, None, Some}
 use mathlib.Core.Path.{◌≡◌, refl, ap, ◌∙◌}
 use native.Mathlib.Nat.{add-zero}
 use native.Mathlib.Omega.{arith}
@@ -110,8 +110,8 @@ module _ (limit : ℕ) (small : limit < 2 ^ 64) (g : Going) where
   -- how much of the record there was plays no part
   opened_any : (p : Phase) (t : List ℕ) (o : Option ℕ) → opened (in_phase g p) t o ≡ opened g t o
   unfolding valued
-  opened_any p t none = refl
-  opened_any p t (some n) = refl
+  opened_any p t None = refl
+  opened_any p t (Some n) = refl
 
   headed_any : (p : Phase) (t : List ℕ) → headed (in_phase g p) t ≡ headed g t
   unfolding headed

@@ -2,7 +2,7 @@
 use Prim.Native.Nat.{ℕ, suc, ◌+◌, ◌-◌, ◌*◌, ◌^◌, ◌≤◌, ◌<◌}
 use mathlib.Core.Bool.{true, cond}
 use mathlib.Core.List.{List, [], ◌∷◌, ◌++◌}
-use mathlib.Core.Option.{none, some}
+use Rattle.std.specs.Prelude.{None, Some}
 use mathlib.Core.Path.{◌≡◌, refl, sym, ap, subst, ◌∙◌}
 use native.Mathlib.Omega.{arith}
 use lib.Dec.{ltb, lit<}
@@ -91,7 +91,7 @@ module _ (s : List ℕ) (p : Progress) (at stop count : ℕ) (h : Feeds s p at s
     pub feeds_wanted : c.notice ≡ wanted → (next : ℕ) → stop ≤ next → next ≤ length s → (at + c.taken ≡ stop) × Feeds s c.after stop next count
     feeds_wanted e next l m =
         let t : c.taken ≡ stop - at = rw e at takes in
-        let none_told : record_in (advance pipe_limit p part).notice ≡ none = rw (← is_advance, e) in
+        let none_told : record_in (advance pipe_limit p part).notice ≡ None = rw (← is_advance, e) in
         let place : at + c.taken ≡ stop = omega (arith, h.begun) in
         let b = h.begun in
         let f = h.few in (
@@ -113,7 +113,7 @@ module _ (s : List ℕ) (p : Progress) (at stop count : ℕ) (h : Feeds s p at s
 
       next_told : record { told = drop count (all s).told; after = (all s).after } ≡ tell x (run pipe_limit c.after (drop (at + c.taken) s))
       next_told =
-          let one : record_in (advance pipe_limit p part).notice ≡ some x = rw (← is_advance, e) in
+          let one : record_in (advance pipe_limit p part).notice ≡ Some x = rw (← is_advance, e) in
           let inside : c.taken ≤ length part = omega (arith, length_part, some_taken.1) in
           let left : drop c.taken part ++ drop stop s ≡ drop (at + c.taken) s
           = sym (drop-append-le c.taken part (drop stop s) inside) ∙ ap (drop c.taken) split ∙ drop-drop c.taken at s in
@@ -145,7 +145,7 @@ module _ (s : List ℕ) (p : Progress) (at stop count : ℕ) (h : Feeds s p at s
           )
 
     -- a refusal, or the end: nothing follows
-    stands : (q : Progress) → c.after ≡ q → ((t : List ℕ) → run pipe_limit q t ≡ silent q) → record_in c.notice ≡ none → AllTold s q count
+    stands : (q : Progress) → c.after ≡ q → ((t : List ℕ) → run pipe_limit q t ≡ silent q) → record_in c.notice ≡ None → AllTold s q count
     stands q e stays none_told =
         nothing_more s q count h.some_told (sym (stays (drop stop s))
         ∙ ap (λ (r : Progress). run pipe_limit r (drop stop s)) (sym e)

@@ -1,12 +1,11 @@
 -- A whole pack handed over in parts: how many records are told and how it ends, and the words that tell of them.
-use Rattle.std.specs.Prelude.{ℕ, ◌+◌, ◌-◌, ◌*◌, ◌≤◌, min, Bool, true, false, cond, List, [], ◌∷◌, ◌++◌, ◌≡◌, leb, length, get_or, drop}
+use Rattle.std.specs.Prelude.{ℕ, ◌+◌, ◌-◌, ◌*◌, ◌≤◌, min, Bool, true, false, cond, List, [], ◌∷◌, ◌++◌, ◌≡◌, leb, length, get_or, drop, Option, Some, None, Result, Ok, Err}
 use Rattle.std.proofs.Common.{arith, le-leb}
 use Rattle.pack.specs.declared.Entry.{Entry}
 use Rattle.pack.specs.Reading.{Ending, whole, refused, Reading}
 use Rattle.pipe.specs.Taking as pipe
 use Rattle.pipe.specs.Taking.{Progress, going, ended}
-use Rattle.pipe.specs.declared.Verdict.{Verdict}
-use Rattle.pipe.specs.declared.Fed.{Fed}
+use Rattle.pipe.specs.declared.Count.{Count}
 
 -- the words of an entry, and of all
 abbrev pub words_in : Entry → List ℕ
@@ -22,9 +21,9 @@ pub data Feeding : Type 0 where
   short : Feeding
 
 -- what each answer of the code says
-abbrev pub ending_of : Verdict → Ending
-ending_of Verdict.Whole = whole
-ending_of (Verdict.Refused n place) = refused n place
+abbrev pub ending_of : Result (Unit {0}) (ℕ × ℕ) → Ending
+ending_of (Ok _) = whole
+ending_of (Err r) = refused r.0 r.1
 
 -- how a pack ends that is closed so
 abbrev pub ending_in : Progress → Ending
@@ -32,9 +31,9 @@ ending_in (going g) = whole
 ending_in (pipe.refused n place) = refused n place
 ending_in (ended records) = whole
 
-abbrev pub feeding_of : Fed → Feeding
-feeding_of (Fed.Told n v) = told n (ending_of v)
-feeding_of Fed.Short = short
+abbrev pub feeding_of : Option Count → Feeding
+feeding_of (Some c) = told c.records (ending_of c.verdict)
+feeding_of None = short
 
 -- four words a record
 abbrev pub has_room : Reading → ℕ → Bool

@@ -2,7 +2,7 @@
 use Rattle.std.specs.Prelude.{ℕ, zero, suc, ◌+◌, ◌^◌, ◌≤◌, ◌<◌, ◌≡◌, length, drop}
 use Rattle.std.proofs.Math.Bool.{true}
 use mathlib.Core.List.{List, [], ◌∷◌, ◌++◌, flatten}
-use Rattle.std.proofs.Math.Option.{Option, none, some}
+use Rattle.std.specs.Prelude.{Option, None, Some}
 use Rattle.std.proofs.Math.Path.{refl, sym, ap}
 use Rattle.std.proofs.Common.{◌∙◌, arith, length-drop}
 use Rattle.std.proofs.lemmas.List.{drop-append-le}
@@ -44,17 +44,17 @@ closed r = record { told = r.told; after = close r.after }
 -- is announced. It tells records, and ends in a refusal or with their number.
 
 abbrev pub record_in : Notice → Option Entry
-record_in wanted = none
-record_in (complete e) = some e
-record_in (refusal n place) = none
-record_in (over records) = none
-record_in malformed = none
+record_in wanted = None
+record_in (complete e) = Some e
+record_in (refusal n place) = None
+record_in (over records) = None
+record_in malformed = None
 
 pub data Session (limit : ℕ) : Progress → List (List ℕ) → List Entry → Progress → Type 0 where
   announced : {p : Progress} → Session limit p [] [] (finish limit p).after
-  next_part : {p q : Progress} {part : List ℕ} {parts : List (List ℕ)} {es : List Entry} → record_in (take limit p part).notice ≡ none
+  next_part : {p q : Progress} {part : List ℕ} {parts : List (List ℕ)} {es : List Entry} → record_in (take limit p part).notice ≡ None
       → Session limit (take limit p part).after parts es q → Session limit p (part ∷ parts) es q
-  again : {p q : Progress} {part : List ℕ} {parts : List (List ℕ)} {e : Entry} {es : List Entry} → record_in (take limit p part).notice ≡ some e
+  again : {p q : Progress} {part : List ℕ} {parts : List (List ℕ)} {e : Entry} {es : List Entry} → record_in (take limit p part).notice ≡ Some e
       → Session limit (take limit p part).after (drop (take limit p part).taken part ∷ parts) es q → Session limit p (part ∷ parts) (e ∷ es) q
 
 -- ---- a run, by what the first call says
@@ -77,28 +77,28 @@ resumed_later (refusal n place) p taken b s rest = refl
 resumed_later (over records) p taken b s rest = refl
 resumed_later malformed p taken b s rest = refl
 
-resumed_none : (notice : Notice) (p : Progress) (rest : Run) → record_in notice ≡ none → resumed notice p rest ≡ silent p
+resumed_none : (notice : Notice) (p : Progress) (rest : Run) → record_in notice ≡ None → resumed notice p rest ≡ silent p
 resumed_none wanted p rest e = refl
 resumed_none (complete f) p rest e = absurd_numbers (cc)
 resumed_none (refusal n place) p rest e = refl
 resumed_none (over records) p rest e = refl
 resumed_none malformed p rest e = refl
 
-resumed_some : (notice : Notice) (p : Progress) (rest : Run) (e : Entry) → record_in notice ≡ some e → resumed notice p rest ≡ tell e rest
+resumed_some : (notice : Notice) (p : Progress) (rest : Run) (e : Entry) → record_in notice ≡ Some e → resumed notice p rest ≡ tell e rest
 resumed_some wanted p rest e q = absurd_numbers (cc)
 resumed_some (complete f) p rest e q = let same : f ≡ e = cc in ap (λ (x : Entry). tell x rest) same
 resumed_some (refusal n place) p rest e q = absurd_numbers (cc)
 resumed_some (over records) p rest e q = absurd_numbers (cc)
 resumed_some malformed p rest e q = absurd_numbers (cc)
 
-joined_some : (notice : Notice) (c : Call) (rest : Progress → Call) (e : Entry) → record_in notice ≡ some e → joined notice c rest ≡ c
+joined_some : (notice : Notice) (c : Call) (rest : Progress → Call) (e : Entry) → record_in notice ≡ Some e → joined notice c rest ≡ c
 joined_some wanted c rest e q = absurd_numbers (cc)
 joined_some (complete f) c rest e q = refl
 joined_some (refusal n place) c rest e q = refl
 joined_some (over records) c rest e q = refl
 joined_some malformed c rest e q = refl
 
-taken_some : (notice : Notice) (taken n : ℕ) (e : Entry) → TakenOf notice taken n → record_in notice ≡ some e → (1 ≤ taken) × (taken ≤ n)
+taken_some : (notice : Notice) (taken n : ℕ) (e : Entry) → TakenOf notice taken n → record_in notice ≡ Some e → (1 ≤ taken) × (taken ≤ n)
 taken_some wanted taken n e t q = absurd_numbers (cc)
 taken_some (complete f) taken n e t q = t
 taken_some (refusal m place) taken n e t q = absurd_numbers (cc)
@@ -150,7 +150,7 @@ module _ (limit : ℕ) where
       go (refuses n place) more = refl
 
   -- a call that tells no record takes the part, or takes nothing for ever
-  pub run_passed : (p : Progress) (part rest : List ℕ) → record_in (advance limit p part).notice ≡ none
+  pub run_passed : (p : Progress) (part rest : List ℕ) → record_in (advance limit p part).notice ≡ None
       → run limit p (part ++ rest) ≡ run limit (advance limit p part).after rest
   run_passed p part rest e =
       let c = advance limit p part in
@@ -158,7 +158,7 @@ module _ (limit : ℕ) where
       run_append p part rest ∙ ap (λ (r : Run). chained r (run limit r.after rest)) one
 
   -- after a call that tells one, the bytes that it did not take follow
-  pub run_told : (p : Progress) (part rest : List ℕ) (e : Entry) → record_in (advance limit p part).notice ≡ some e
+  pub run_told : (p : Progress) (part rest : List ℕ) (e : Entry) → record_in (advance limit p part).notice ≡ Some e
       → run limit p (part ++ rest) ≡ tell e (run limit (advance limit p part).after (drop (advance limit p part).taken part ++ rest))
   run_told p part rest e q =
       let c = advance limit p part in
@@ -212,8 +212,8 @@ module _ (limit : ℕ) (small : limit < 2 ^ 64) where
       f' = rw same (advance_fits limit small p part f)
 
       go : (o : Option Entry) → record_in (take limit p part).notice ≡ o → Held p (part ∷ parts)
-      go none q = let h = others (take limit p part).after f' in (h.0, h.1, next_part q h.2)
-      go (some e) q =
+      go None q = let h = others (take limit p part).after f' in (h.0, h.1, next_part q h.2)
+      go (Some e) q =
           let c = advance limit p part in
           let i : (1 ≤ (take limit p part).taken) × ((take limit p part).taken ≤ length part)
           = rw same (taken_some c.notice c.taken (length part) e (advance_taken limit p part) (rw same at q)) in

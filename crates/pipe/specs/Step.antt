@@ -3,7 +3,7 @@
 use Rattle.std.specs.Prelude.{ℕ, suc, ◌+◌, ◌%◌, ◌^◌, ◌≤◌, ◌<◌, Bool, cond, not, ◌&&◌, ◌||◌, ◌≡◌, eqb, take as List-take}
 use Rattle.std.proofs.Math.Bool.{true, false}
 use mathlib.Core.List.{List, [], ◌∷◌, ◌++◌}
-use Rattle.std.proofs.Math.Option.{Option, none, some}
+use Rattle.std.specs.Prelude.{Option, None, Some}
 use Rattle.std.proofs.Math.Path.{refl, ap}
 use Rattle.std.proofs.Common.{sym, subst, ◌∙◌, zero-add, add_assoc, length-append}
 use native.Mathlib.Omega.{arith}
@@ -136,16 +136,16 @@ unfolding pushed add
 push_count h b l = pushed_count h (b ∷ []) (omega arith) ∙ omega arith
 
 -- a refusal that a header gets is one of 2 to 6, and not 2 where it is whole
-header_number : (t : List ℕ) (n : ℕ) → 32 ≤ length t → lowest (header_rows t) ≡ some n → (3 ≤ n) × (n ≤ 6)
+header_number : (t : List ℕ) (n : ℕ) → 32 ≤ length t → lowest (header_rows t) ≡ Some n → (3 ≤ n) × (n ≤ 6)
 unfolding header_rows lowest
 header_number t n long e =
     rows (not (eqb (field t 0 8) magic)) (not (eqb (field t 24 1) 0)) (not (eqb (field t 27 1) 8)) (not (eqb (field t 30 2) (xxh64 (List-take 30 t) % 65536)))
     (sym (rw (le-ltb (length t) 32 long)) ∙ e)
   where
-    same : (m : ℕ) → ◌≡◌ {A = Option ℕ} (some m) (some n) → m ≡ n
+    same : (m : ℕ) → ◌≡◌ {A = Option ℕ} (Some m) (Some n) → m ≡ n
     same m q = cc
 
-    rows : (a b c d : Bool) → cond a (some 3) (cond b (some 4) (cond c (some 5) (cond d (some 6) none))) ≡ some n → (3 ≤ n) × (n ≤ 6)
+    rows : (a b c d : Bool) → cond a (Some 3) (cond b (Some 4) (cond c (Some 5) (cond d (Some 6) None))) ≡ Some n → (3 ≤ n) × (n ≤ 6)
     rows true b c d q = let k = same 3 q in (omega arith, omega arith)
     rows false true c d q = let k = same 4 q in (omega arith, omega arith)
     rows false false true d q = let k = same 5 q in (omega arith, omega arith)
@@ -219,12 +219,12 @@ module _ (limit : ℕ) where
         go : (u : Bool) → ltb (length t) 32 ≡ u → (o : Option ℕ) → lowest (header_rows t) ≡ o
             → NextFits (g.start + length t) (cond u (onward (in_phase g (in_header t))) (opened g t o))
         go true e o q = (record { phase = e; within = within; few = few }, refl)
-        go false e none q =
+        go false e None q =
             let l = ltb-false (length t) 32 e in
             let z : fresh.count ≡ 0 = (unfold fresh in refl) in
             let n : g.start + (32 + fresh.count) ≡ g.start + length t = omega arith in
             rw n at (valued_fits t fresh (omega arith) (omega arith))
-        go false e (some n) q =
+        go false e (Some n) q =
             let l = ltb-false (length t) 32 e in
             let r = header_number t n l q in
             (record { least = omega (arith, r.0); most = omega (arith, r.1); within = omega arith }, other_numbers n r.0 r.1)

@@ -1,6 +1,6 @@
 -- A pack that comes in parts (request 6): what is kept between them, and what a call answers. The bytes are taken one after the other.
 use Rattle.std.specs.Prelude.{ℕ, suc, ◌+◌, Bool, cond, ◌&&◌, List, [], ◌∷◌, ◌++◌, eqb, leb, ltb, length}
-use Rattle.std.proofs.Math.Option.{Option, none, some}
+use Rattle.std.specs.Prelude.{Option, None, Some}
 use Rattle.refusals.specs.Sheet.{lowest}
 use Rattle.xxh64.specs.Parts.{Hashing, fresh, push, finished}
 use Rattle.tlv.specs.Found.{header_rows, header_of}
@@ -60,8 +60,8 @@ valued g head hashing =
 
 -- the header is whole: 3 to 6, or its value begins, an empty one is there at once
 abbrev pub opened : Going → List ℕ → Option ℕ → Next
-opened g head none = valued g head fresh
-opened g head (some n) = refuses n g.start
+opened g head None = valued g head fresh
+opened g head (Some n) = refuses n g.start
 
 -- once so much of the header is there
 unfoldable pub headed : Going → List ℕ → Next

@@ -3,7 +3,7 @@
 use Rattle.std.specs.Prelude.{ℕ, suc, ◌+◌, ◌-◌, ◌^◌, ◌≤◌, ◌<◌, Bool, not, ◌≡◌, eqb, drop}
 use Rattle.std.proofs.Math.Bool.{true, false, cond}
 use mathlib.Core.List.{List, [], ◌∷◌, ◌++◌, append_assoc, append-nil, flatten}
-use Rattle.std.proofs.Math.Option.{Option, none, some}
+use Rattle.std.specs.Prelude.{Option, None, Some}
 use Rattle.std.proofs.Math.Path.{refl, sym, ap}
 use Rattle.std.proofs.Common.{◌∙◌, length-drop, take-append-drop, take_at, drop_at, length-take-le}
 use native.Mathlib.Omega.{arith}
@@ -56,10 +56,10 @@ module _ (head : List ℕ) (long : length head ≡ 32) (rest : List ℕ) where
   there = rw length-append (omega arith)
 
   -- 3 to 6
-  header_refused_lem : (n : ℕ) → lowest (header_rows head) ≡ some n → step (head ++ rest) ≡ fault n
+  header_refused_lem : (n : ℕ) → lowest (header_rows head) ≡ Some n → step (head ++ rest) ≡ fault n
   header_refused_lem n e = step_of_fault (head ++ rest) there n (unfold header in rw (rows_front, e))
 
-  module _ (passes : lowest (header_rows head) ≡ none) where
+  module _ (passes : lowest (header_rows head) ≡ None) where
     value_step : step (head ++ rest) ≡ found_unless (lowest (value_rows (head ++ rest))) (header_of head)
     value_step = step_of_header (head ++ rest) there (header_of head) (unfold header in rw (rows_front, passes, header_front))
 
@@ -91,7 +91,7 @@ module _ (head : List ℕ) (long : length head ≡ 32) (rest : List ℕ) where
         ∙ rw (length_there, left, le-ltb (length rest) (header_of head).length (omega arith), hash_there, value, ← hash_in_parts v small)
         (go (eqb (header_of head).hash (finished (pushed fresh v))))
       where
-        go : (t : Bool) → found_unless (cond (not t) (some 8) none) (header_of head) ≡ cond t (found (header_of head)) (fault 8)
+        go : (t : Bool) → found_unless (cond (not t) (Some 8) None) (header_of head) ≡ cond t (found (header_of head)) (fault 8)
         go true = refl
         go false = refl
 
@@ -130,7 +130,7 @@ count_from_fresh v l = pushed_count fresh v (omega arith) ∙ omega arith
 abbrev Holds : Phase → List ℕ → Type 0
 Holds (in_header u) t = (t ≡ u) × (length u < 32)
 Holds (in_value head hashing) t =
-    (v : List ℕ) × (t ≡ head ++ v) × (hashing ≡ pushed fresh v) × (length head ≡ 32) × (lowest (header_rows head) ≡ none) × (length v < (header_of head).length)
+    (v : List ℕ) × (t ≡ head ++ v) × (hashing ≡ pushed fresh v) × (length head ≡ 32) × (lowest (header_rows head) ≡ None) × (length v < (header_of head).length)
 
 abbrev at : ℕ → ℕ → Phase → Going
 at start before p = record { start = start; records = before; phase = p }
@@ -162,7 +162,7 @@ module _ (limit : ℕ) (small : limit < 2 ^ 64) where
     Continues t f = Reads s start before t (followed f (λ next. run limit (going next) s))
 
     -- so much of the value is there
-    value_reads : (p : Phase) (head v : List ℕ) → length head ≡ 32 → lowest (header_rows head) ≡ none → length v ≤ (header_of head).length
+    value_reads : (p : Phase) (head v : List ℕ) → length head ≡ 32 → lowest (header_rows head) ≡ None → length v ≤ (header_of head).length
         → start + length (head ++ v) + length s ≤ limit → Continues (head ++ v) (valued (at start before p) head (pushed fresh v))
     unfolding valued
     value_reads p head v long passes some_left within =
@@ -209,12 +209,12 @@ module _ (limit : ℕ) (small : limit < 2 ^ 64) where
         go : (t : Bool) → ltb (length u) 32 ≡ t → (o : Option ℕ) → lowest (header_rows u) ≡ o
             → Continues u (cond t (onward (in_phase (at start before p) (in_header u))) (opened (at start before p) u o))
         go true e o q = more start before (in_header u) u (refl, ltb-true (length u) 32 e) within
-        go false e none q =
+        go false e None q =
             let l = ltb-false (length u) 32 e in
             let same : u ++ [] ≡ u = append-nil u in
             let empty : pushed fresh [] ≡ fresh = (unfold pushed in refl) in
             rw (same, empty) at (value_reads p u [] (omega arith) q (omega arith) (rw same within))
-        go false e (some n) q =
+        go false e (Some n) q =
             let l = ltb-false (length u) 32 e in
             ap (read_run before) (sym (records_fault start (u ++ s) n (header_refused_lem u (omega arith) s n q)))
 

@@ -1,7 +1,7 @@
 // A pack that comes in parts (request 6): a call takes a part, and tells of a record as it completes.
 #![tactic(auto)]
 
-ghost use Rattle.std.specs.Prelude.{◌≡◌, true, cond, ◌&&◌, [], ◌++◌, ◌+◌, ◌*◌, ◌≤◌, ◌<◌, ◌^◌, min, leb, ltb, length, take as front};
+ghost use Rattle.std.specs.Prelude.{◌≡◌, true, cond, ◌&&◌, [], ◌++◌, ◌+◌, ◌*◌, ◌≤◌, ◌<◌, ◌^◌, leb, ltb, length, take as front};
 ghost use Rattle.slices.specs.Overwriting.{overwritten};
 ghost use Rattle.refusals.specs.Sheet.{lowest};
 ghost use Rattle.xxh64.specs.Parts.{hashing_of};
@@ -14,7 +14,7 @@ ghost use Rattle.pipe.specs.Feeding.{words_in, words_of, ending_in, ending_of, f
 ghost use Rattle.pipe.specs.Whole.{piped};
 
 use pack::Entry;
-use tlv::{HeaderRead, RecordHeader};
+use tlv::RecordHeader;
 
 // The longest pack.
 pub const LIMIT: usize = 1_099_511_627_776;
@@ -63,15 +63,13 @@ pub struct Taken {
 pub fn fresh() -> State
     ensures { progress_of result ≡ going at_start }
 {
-    let header = [0u8; 32];
-    let hash = xxh64::State::new();
     State {
         phase: Phase::Header,
         start: 0,
         records: 0,
-        header,
+        header: [0; 32],
         held: 0,
-        hash,
+        hash: xxh64::State::new(),
     }
 }
 
@@ -93,20 +91,16 @@ fn in_range(start: usize, size: usize, records: usize) -> bool
 fn well_formed(state: State) -> bool
     ensures { result ≡ fits pipe_limit (progress_of state) }
 {
-    let phase = state.phase;
-    match phase {
+    match state.phase {
         Phase::Header => {
-            let held = state.held;
-            if RecordHeader::LENGTH <= held {
+            if RecordHeader::LENGTH <= state.held {
                 return false;
             }
-            in_range(state.start, held, state.records)
+            in_range(state.start, state.held, state.records)
         }
         Phase::Value => {
-            let header = state.header;
-            let hash = state.hash;
-            let count = hash.count;
-            if RecordHeader::fields(&header).length <= count {
+            let count = state.hash.count;
+            if RecordHeader::fields(&state.header).length <= count {
                 return false;
             }
             if LIMIT < count as usize {
@@ -132,12 +126,6 @@ fn well_formed(state: State) -> bool
 }
 
 // ---- one call
-
-fn least(a: usize, b: usize) -> usize
-    ensures { result ≡ min a b }
-{
-    if a < b { a } else { b }
-}
 
 // The header with the bytes of the part after those that are held.
 fn filled(header: [u8; 32], held: usize, part: &[u8]) -> [u8; 32]
@@ -175,8 +163,7 @@ fn still(state: State, event: Event) -> Taken
 fn standing(state: State) -> Taken
     ensures { call_of result ≡ standing (progress_of state) }
 {
-    let phase = state.phase;
-    match phase {
+    match state.phase {
         Phase::Header => still(state, Event::Wanted),
         Phase::Value => still(state, Event::Wanted),
         Phase::Refused(number, place) => still(state, Event::Refusal(number, place)),
@@ -188,17 +175,7 @@ fn standing(state: State) -> Taken
 fn close(state: State, phase: Phase) -> Taken
     ensures { call_of result ≡ standing (progress_in phase state) }
 {
-    let header = state.header;
-    let hash = state.hash;
-    let after = State {
-        phase,
-        start: state.start,
-        records: state.records,
-        header,
-        held: state.held,
-        hash,
-    };
-    standing(after)
+    standing(State { phase, ..state })
 }
 
 fn refuse(state: State, number: u8, place: usize) -> Taken
@@ -212,18 +189,13 @@ fn settle(state: State, taken: usize) -> Taken
     requires { (state.start + (32 + state.hash.count) ≤ pipe_limit) × (state.records ≤ state.start) }
     ensures { call_of result ≡ stepped taken (valued (record_at state (in_header [])) state.header (hashing_of state.hash)) }
 {
-    let header = state.header;
-    let fields = RecordHeader::fields(&header);
+    let fields = RecordHeader::fields(&state.header);
     let hash = state.hash;
     let start = state.start;
     if hash.count < fields.length {
         let after = State {
             phase: Phase::Value,
-            start,
-            records: state.records,
-            header,
-            held: state.held,
-            hash,
+            ..state
         };
         return onward(after, taken);
     }
@@ -234,9 +206,8 @@ fn settle(state: State, taken: usize) -> Taken
         phase: Phase::Header,
         start: start + RecordHeader::LENGTH + fields.length as usize,
         records: state.records + 1,
-        header,
         held: 0,
-        hash,
+        ..state
     };
     let entry = Entry {
         start,
@@ -258,25 +229,16 @@ fn take_value(state: State, part: &[u8], taken: usize) -> Taken
     ensures { call_of result ≡ proceed taken (valued (record_at state (in_header [])) state.header (hashing_of state.hash))
         (λ next. advance pipe_limit (going next) part.now) }
 {
-    let header = state.header;
-    let hash = state.hash;
-    let count = hash.count;
-    let start = state.start;
-    let n = least(
-        (RecordHeader::fields(&header).length - count) as usize,
-        part.len(),
-    );
-    if LIMIT - (start + RecordHeader::LENGTH + count as usize) < n {
+    let count = state.hash.count;
+    let left = RecordHeader::fields(&state.header).length - count;
+    let n = (left as usize).min(part.len());
+    if LIMIT - (state.start + RecordHeader::LENGTH + count as usize) < n {
         return refuse(state, 1, 0);
     }
-    let hash = hash.update(&part[..n]);
     let after = State {
         phase: Phase::Value,
-        start,
-        records: state.records,
-        header,
-        held: state.held,
-        hash,
+        hash: state.hash.update(&part[..n]),
+        ..state
     };
     settle(after, taken + n)
 }
@@ -287,18 +249,13 @@ fn read_header(state: State, part: &[u8], taken: usize) -> Taken
     ensures { call_of result ≡ proceed taken (opened (record_at state (in_header [])) state.header (lowest (header_rows state.header)))
         (λ next. advance pipe_limit (going next) part.now) }
 {
-    let header = state.header;
-    match RecordHeader::read(&header) {
-        HeaderRead::Fault(f) => refuse(state, tlv::number(f), state.start),
-        HeaderRead::Header(_) => {
-            let hash = xxh64::State::new();
+    match RecordHeader::read(&state.header) {
+        Err(f) => refuse(state, u8::from(f), state.start),
+        Ok(_) => {
             let after = State {
                 phase: Phase::Value,
-                start: state.start,
-                records: state.records,
-                header,
-                held: state.held,
-                hash,
+                hash: xxh64::State::new(),
+                ..state
             };
             take_value(after, part, taken)
         }
@@ -312,20 +269,15 @@ fn take_header(state: State, part: &[u8]) -> Taken
 {
     let held = state.held;
     let start = state.start;
-    let n = least(RecordHeader::LENGTH - held, part.len());
+    let n = (RecordHeader::LENGTH - held).min(part.len());
     if LIMIT - (start + held) < n {
         return refuse(state, 1, 0);
     }
-    let kept = state.header;
-    let header = filled(kept, held, &part[..n]);
-    let hash = state.hash;
     let after = State {
         phase: Phase::Header,
-        start,
-        records: state.records,
-        header,
+        header: filled(state.header, held, &part[..n]),
         held: held + n,
-        hash,
+        ..state
     };
     if held + n < RecordHeader::LENGTH {
         return onward(after, n);
@@ -341,8 +293,7 @@ pub fn take(state: State, part: &[u8]) -> Taken
     if !well_formed(state) {
         return still(state, Event::Malformed);
     }
-    let phase = state.phase;
-    match phase {
+    match state.phase {
         Phase::Header => take_header(state, part),
         Phase::Value => take_value(state, part, 0),
         Phase::Refused(_, _) => standing(state),
@@ -359,8 +310,7 @@ pub fn end(state: State) -> Taken
     if !well_formed(state) {
         return still(state, Event::Malformed);
     }
-    let phase = state.phase;
-    match phase {
+    match state.phase {
         Phase::Header => {
             if state.held == 0 {
                 return close(state, Phase::Ended);
@@ -375,25 +325,14 @@ pub fn end(state: State) -> Taken
 
 // ---- a whole pack, handed over in parts
 
-// How a pack ends.
-#[derive(Clone, Copy)]
-pub enum Verdict {
-    Whole,
-    Refused(u8, usize),
-}
+// How a pack ends: whole, or with a refusal's number and place.
+pub type Verdict = Result<(), (u8, usize)>;
 
 // How many records a pack has before its end or the first fault, and how it ends.
 #[derive(Clone, Copy)]
 pub struct Count {
     pub records: usize,
     pub verdict: Verdict,
-}
-
-// So many records were told, and how the pack ends; or the lent words are too few for them.
-#[derive(Clone, Copy)]
-pub enum Fed {
-    Told(usize, Verdict),
-    Short,
 }
 
 // Where the part that begins at a place ends: the k-th has the k-th length, as far as the pack goes,
@@ -405,7 +344,7 @@ fn part_end(len: usize, lengths: &[usize], k: usize, at: usize) -> usize
     if lengths.len() <= k {
         return len;
     }
-    at + least(lengths[k], len - at)
+    at + lengths[k].min(len - at)
 }
 
 // The words of a record, where it is one of the first so many.
@@ -424,14 +363,12 @@ fn announced(state: State) -> Verdict
     requires { fits pipe_limit (progress_of state) ≡ true }
     ensures { ending_of result ≡ ending_in (close (progress_of state)) }
 {
-    let last = end(state);
-    let event = last.event;
-    match event {
-        Event::Refusal(number, place) => Verdict::Refused(number, place),
-        Event::Wanted => Verdict::Whole,
-        Event::Complete(_) => Verdict::Whole,
-        Event::Over(_) => Verdict::Whole,
-        Event::Malformed => Verdict::Whole,
+    match end(state).event {
+        Event::Refusal(number, place) => Err((number, place)),
+        Event::Wanted => Ok(()),
+        Event::Complete(_) => Ok(()),
+        Event::Over(_) => Ok(()),
+        Event::Malformed => Ok(()),
     }
 }
 
@@ -451,11 +388,9 @@ fn feed(pack: &[u8], lengths: &[usize], told: &mut [u64], room: usize) -> Count
     let mut count: usize = 0;
     loop {
         let call = take(state, &pack[at..stop]);
-        let after = call.state;
-        state = after;
-        at = at + call.taken;
-        let event = call.event;
-        match event {
+        state = call.state;
+        at += call.taken;
+        match call.event {
             Event::Wanted => {
                 if lengths.len() <= k {
                     return Count {
@@ -473,19 +408,19 @@ fn feed(pack: &[u8], lengths: &[usize], told: &mut [u64], room: usize) -> Count
             Event::Refusal(number, place) => {
                 return Count {
                     records: count,
-                    verdict: Verdict::Refused(number, place),
+                    verdict: Err((number, place)),
                 };
             }
             Event::Over(_) => {
                 return Count {
                     records: count,
-                    verdict: Verdict::Whole,
+                    verdict: Ok(()),
                 };
             }
             Event::Malformed => {
                 return Count {
                     records: count,
-                    verdict: Verdict::Whole,
+                    verdict: Ok(()),
                 };
             }
         }
@@ -495,17 +430,19 @@ fn feed(pack: &[u8], lengths: &[usize], told: &mut [u64], room: usize) -> Count
 // The pack is handed over in parts of these lengths, what is left of it as one part more, and the
 // end is announced. The records before the end or the first fault are told, four words for each:
 // start, tag, length and hash. Words after those keep their content, and where they are too few, all
-// do.
-pub fn in_parts(pack: &[u8], lengths: &[usize], told: &mut [u64]) -> Fed
+// do, and nothing is answered.
+pub fn in_parts(pack: &[u8], lengths: &[usize], told: &mut [u64]) -> Option<Count>
     ensures { (feeding_of result ≡ fed (piped pipe_limit pack.now) (length told.old))
         × (told.new ≡ words_after (piped pipe_limit pack.now) told.old) }
 {
     let counted = feed(pack, lengths, told, 0);
     let n = counted.records;
     if told.len() / 4 < n {
-        return Fed::Short;
+        return None;
     }
     let all = feed(pack, lengths, told, n);
-    let verdict = all.verdict;
-    Fed::Told(n, verdict)
+    Some(Count {
+        records: n,
+        verdict: all.verdict,
+    })
 }

@@ -1,7 +1,7 @@
 -- The three parts of a composite text, as places of the part in which the text stands.
 use Prim.Native.Nat.{ℕ, ◌+◌, ◌-◌, ◌≤◌, ◌<◌}
 use mathlib.Core.List.{List}
-use mathlib.Core.Option.{none, some}
+use Rattle.std.specs.Prelude.{None, Some}
 use mathlib.Core.Path.{◌≡◌, sym, ap, ◌∙◌}
 use native.Mathlib.Omega.{arith}
 use lib.ListN.{length, take, drop, length-drop}
@@ -28,7 +28,7 @@ module _ (s : List ℕ) (start len : ℕ) (within : start + len ≤ length s) wh
       let l : m ≤ length (drop start s) = omega (arith, length-drop start s) in
       ap (λ k. drop m (take k (drop start s))) n ∙ drop_take m (len - m) (drop start s) l ∙ ap (take (len - m)) (drop-drop m start s)
 
-  module _ (slash : ℕ) (e : some slash ≡ slash_in text) where
+  module _ (slash : ℕ) (e : Some slash ≡ slash_in text) where
     split : SplitAt text slash
     split = split_at text slash (sym e)
 
@@ -67,5 +67,5 @@ module _ (s : List ℕ) (start len : ℕ) (within : start + len ≤ length s) wh
           object = record { end = omega arith };
         }
 
-  pub composite_refused : none ≡ slash_in text → refused 18 ≡ or_refused 18 (identity_in text) granted
+  pub composite_refused : None ≡ slash_in text → refused 18 ≡ or_refused 18 (identity_in text) granted
   composite_refused e = rw (split_none text (sym e))

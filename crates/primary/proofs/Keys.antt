@@ -4,19 +4,25 @@ use mathlib.Core.Bool.{Bool, true, false, ◌||◌}
 use mathlib.Core.List.{List, [], ◌∷◌}
 use mathlib.Core.Path.{◌≡◌, refl, sym}
 use native.Mathlib.Omega.{arith}
-use lib.ListN.{get_or}
+use lib.ListN.{length, get_or}
 use Rattle.slices.specs.Logic.{or_false, or_assoc}
 use Rattle.slices.specs.Bytes.{none_bytes, cons_bytes}
 use Rattle.endian.specs.Numbers.{little, big}
-use Rattle.msgpack.specs.Items.{whole, pass_over}
+use Rattle.std.specs.Prelude.{Result, Ok, Err}
+use Rattle.slices.specs.Logic.{absurd_numbers}
+use Rattle.refusals.specs.Answers.{Answer, refused}
+use Rattle.msgpack.specs.Items.{whole, passage_of, pass_over}
 use Rattle.msgpack.specs.Lookup.{broken, last_value}
 use Rattle.msgpack.specs.Pairs.{code_of, position, Asked, is_repeated, place_told, PairsRead}
 use Rattle.msgpack.specs.PairLaws.{place_is, letter_place, letter_repeats, no_letter}
 use Rattle.msgpack.specs.Views.{repeats, byte_view}
 use Rattle.msgpack.specs.declared.Pairs.{Pairs}
-use Rattle.primary.specs.Parts.{ulid_key, bucket_key, object_key, identifier_key, deleted_key, delete_id_key}
+use Rattle.primary.specs.Parts.{is_of_length, fills, ulid_key, bucket_key, object_key, identifier_key, deleted_key, delete_id_key}
 use Rattle.primary.specs.Parts as keys
-use Rattle.primary.specs.Answers.{IdentifierAt}
+use Rattle.primary.specs.Answers.{number_of, places_by, IdentifierAt}
+use Rattle.primary.specs.Filling.{fills_is, fills_whole}
+use Rattle.primary.specs.declared.Fault.{Fault}
+use Rattle.primary.specs.declared.Fault.TheVariants.{NotWhole, NotAsDescribed}
 
 module _ (s keys : List ℕ) (r : Pairs) (read : PairsRead s keys r) (n : ℕ) (w : pass_over s ≡ whole n) where
   identifier_places : position keys (code_of ulid_key) ≡ 0 → position keys (code_of bucket_key) ≡ 1 → position keys (code_of object_key) ≡ 2
@@ -26,6 +32,40 @@ module _ (s keys : List ℕ) (r : Pairs) (read : PairsRead s keys r) (n : ℕ) (
     bucket = letter_place s keys r read n w 98 1 (omega arith) (omega arith) b m;
     object = letter_place s keys r read n w 111 2 (omega arith) (omega arith) o m;
   }
+
+-- ---- a part that is one whole map, by the places told, or that is not
+
+pub record WholeMap (s : List ℕ) (r : Pairs) (places : List ℕ) : Type 0 where
+  pub filled : fills s ≡ true
+  pub whole_part : pass_over s ≡ whole (length s)
+  pub is_map : r.map ≡ true
+  pub told : places ≡ r.places
+
+module _ (s keys : List ℕ) (r : Pairs) (read : PairsRead s keys r) where
+  test : (t : Bool) → is_of_length (length s) (passage_of r.passed) ≡ t → fills s ≡ t
+  test t e = fills_is s _ t read.passed (sym e)
+
+  pub whole_map : (places : List ℕ) → ◌≡◌ {A = Result (List ℕ) Fault} (Ok places) (places_by (is_of_length (length s) (passage_of r.passed)) r.map r.places)
+      → WholeMap s r places
+  whole_map places e = by (is_of_length (length s) (passage_of r.passed)) r.map refl refl e
+    where
+      by : (t m : Bool) → is_of_length (length s) (passage_of r.passed) ≡ t → r.map ≡ m
+          → ◌≡◌ {A = Result (List ℕ) Fault} (Ok places) (places_by t m r.places) → WholeMap s r places
+      by true true f g h = record { filled = test true f; whole_part = fills_whole s (test true f); is_map = g; told = cc }
+      by true false f g h = absurd_numbers (cc)
+      by false m f g h = absurd_numbers (cc)
+
+  pub no_whole_map : {A : Type 0} (f : Fault) (a : Answer A)
+      → ◌≡◌ {A = Result (List ℕ) Fault} (Err f) (places_by (is_of_length (length s) (passage_of r.passed)) r.map r.places)
+      → (fills s ≡ false → refused 16 ≡ a) → (fills s ≡ true → pass_over s ≡ whole (length s) → r.map ≡ false → refused 17 ≡ a)
+      → refused (number_of f) ≡ a
+  no_whole_map {A} f a e not_whole no_map = by (is_of_length (length s) (passage_of r.passed)) r.map refl refl e
+    where
+      by : (t m : Bool) → is_of_length (length s) (passage_of r.passed) ≡ t → r.map ≡ m
+          → ◌≡◌ {A = Result (List ℕ) Fault} (Err f) (places_by t m r.places) → ◌≡◌ {A = Answer A} (refused (number_of f)) a
+      by true true g h i = absurd_numbers (cc)
+      by true false g h i = let is : f ≡ NotAsDescribed = cc in rw is (no_map (test true g) (fills_whole s (test true g)) h)
+      by false m g h i = let is : f ≡ NotWhole = cc in rw is (not_whole (test false g))
 
 -- ---- an identifier's map
 

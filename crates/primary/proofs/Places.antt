@@ -1,7 +1,7 @@
 -- What is found at a place of a part, read at the front of the rest of the part, and that it lies inside the part.
 use Prim.Native.Nat.{ℕ, ◌+◌, ◌≤◌}
 use mathlib.Core.List.{List}
-use mathlib.Core.Option.{none, some}
+use Rattle.std.specs.Prelude.{None, Some}
 use mathlib.Core.Path.{◌≡◌, sym, subst}
 use native.Mathlib.Omega.{arith}
 use lib.ListN.{length, take, drop, length-drop}
@@ -19,28 +19,26 @@ use Rattle.msgpack.specs.Views.{text_at, byte_view, read_front}
 use Rattle.primary.specs.Parts.{text_under}
 use Rattle.primary.specs.Answers.{AllInside, TextInside, TextsInside}
 use Rattle.primary.specs.declared.Texts.{Texts}
-use Rattle.primary.specs.declared.TextRead.TheVariants as text-answer
-use Rattle.primary.specs.declared.TextsRead.TheVariants as texts-answer
 
 -- ---- answers with a place inside, or with none
 
-pub text_inside : (s : List ℕ) (t : Place) → Inside s t → TextInside s (text-answer.At t)
+pub text_inside : (s : List ℕ) (t : Place) → Inside s t → TextInside s (Some t)
 text_inside s t h = record { text = λ u e. let same : t ≡ u = cc in subst (λ v. Inside s v) same h }
 
-pub no_text : (s : List ℕ) → TextInside s text-answer.Missing
+pub no_text : (s : List ℕ) → TextInside s None
 no_text s = record { text = λ u e. absurd_numbers (cc) }
 
-pub texts_inside : (s : List ℕ) (t : Texts) → AllInside s t → TextsInside s (texts-answer.At t)
+pub texts_inside : (s : List ℕ) (t : Texts) → AllInside s t → TextsInside s (Some t)
 texts_inside s t h = record { texts = λ u e. let same : t ≡ u = cc in subst (λ v. AllInside s v) same h }
 
-pub no_texts : (s : List ℕ) → TextsInside s texts-answer.Missing
+pub no_texts : (s : List ℕ) → TextsInside s None
 no_texts s = record { texts = λ u e. absurd_numbers (cc) }
 
 -- ---- a text at a place
 
 module _ (s : List ℕ) (at : ℕ) where
-  module _ (start len : ℕ) (e : some (part start len) ≡ read_text (drop at s)) where
-    pub text_found : some (take len (drop (at + start) s)) ≡ text_at (drop at s)
+  module _ (start len : ℕ) (e : Some (part start len) ≡ read_text (drop at s)) where
+    pub text_found : Some (take len (drop (at + start) s)) ≡ text_at (drop at s)
     unfolding text_at
     text_found = rw (sym e, drop-drop)
 
@@ -52,15 +50,15 @@ module _ (s : List ℕ) (at : ℕ) where
           omega (arith, h, there, length-drop at s);
     }
 
-  pub text_missing : none ≡ read_text (drop at s) → none ≡ text_at (drop at s)
+  pub text_missing : None ≡ read_text (drop at s) → None ≡ text_at (drop at s)
   unfolding text_at
   text_missing e = rw (sym e)
 
 -- ---- the text under a key, by the place told of it
 
-pub text_told : (key m : List ℕ) (p : ℕ) → last_value key m ≡ place_told p → at_place none (λ n. text_at (drop n m)) (place_told p) ≡ text_under byte_view key m
+pub text_told : (key m : List ℕ) (p : ℕ) → last_value key m ≡ place_told p → at_place None (λ n. text_at (drop n m)) (place_told p) ≡ text_under byte_view key m
 unfolding text_under
-text_told key m p e = rw e (sym (read_front none text_at m (place_told p)))
+text_told key m p e = rw e (sym (read_front None text_at m (place_told p)))
 
 -- inside the part
 pub told_within : (s : List ℕ) (at : ℕ) → at ≤ length s → (key : List ℕ) (p : ℕ) → last_value key (drop at s) ≡ place_told p → at + p ≤ length s

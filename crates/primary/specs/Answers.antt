@@ -1,6 +1,6 @@
 -- What the answers of the code say: the contents of a part at the places told.
-use Rattle.std.specs.Prelude.{ℕ, ◌+◌, Bool, List, [], ◌∷◌, ◌≡◌, get_or}
-use Rattle.std.proofs.Math.Option.{Option, none, some}
+use Rattle.std.specs.Prelude.{ℕ, ◌+◌, Bool, cond, List, [], ◌∷◌, ◌≡◌, get_or}
+use Rattle.std.specs.Prelude.{Option, None, Some, Result, Ok, Err}
 use Rattle.slices.specs.Places.{part_at, Inside}
 use Rattle.slices.specs.declared.Place.{Place}
 use Rattle.refusals.specs.Answers.{Answer, refused, granted}
@@ -11,18 +11,8 @@ use Rattle.msgpack.specs.declared.Pairs.{Pairs}
 use Rattle.identifier.specs.Identity.{Identity, identity}
 use Rattle.primary.specs.Parts.{ulid_key, bucket_key, object_key, Version, VersionDelete}
 use Rattle.primary.specs.declared.Texts.{Texts}
-use Rattle.primary.specs.declared.TextRead.{TextRead}
-use Rattle.primary.specs.declared.TextRead.TheVariants as text-answer
-use Rattle.primary.specs.declared.TextsRead.{TextsRead}
-use Rattle.primary.specs.declared.TextsRead.TheVariants as texts-answer
 use Rattle.primary.specs.declared.Fault.{Fault}
 use Rattle.primary.specs.declared.Fault.TheVariants.{NotWhole, NotAsDescribed, Repeated, RuleBroken}
-use Rattle.primary.specs.declared.BlockRead.{BlockRead}
-use Rattle.primary.specs.declared.BlockRead.TheVariants as block-answer
-use Rattle.primary.specs.declared.VersionRead.{VersionRead}
-use Rattle.primary.specs.declared.VersionRead.TheVariants as version-answer
-use Rattle.primary.specs.declared.DeleteRead.{DeleteRead}
-use Rattle.primary.specs.declared.DeleteRead.TheVariants as delete-answer
 
 -- the number of document 01's refusal
 abbrev pub number_of : Fault → ℕ
@@ -31,39 +21,39 @@ number_of NotAsDescribed = 17
 number_of Repeated = 22
 number_of RuleBroken = 18
 
+-- of a part that is one whole map the places told of its keys
+abbrev pub places_by : (whole map : Bool) → List ℕ → Result (List ℕ) Fault
+places_by whole map places = cond whole (cond map (Ok places) (Err NotAsDescribed)) (Err NotWhole)
+
 -- ---- contents at places
 
 abbrev pub texts_in : List ℕ → Texts → Identity
 texts_in s t = identity (part_at s t.ulid) (part_at s t.bucket) (part_at s t.object)
 
-abbrev pub text_of : List ℕ → TextRead → Option (List ℕ)
-text_of s (text-answer.At t) = some (part_at s t)
-text_of s text-answer.Missing = none
+abbrev pub text_of : List ℕ → Option Place → Option (List ℕ)
+text_of s (Some t) = Some (part_at s t)
+text_of s None = None
 
 -- where a text has its content, whose item stands at a place
 abbrev pub placed_at : ℕ → Option Part → Option Place
-placed_at at (some p) = some (record { start = at + p.start; len = p.size })
-placed_at at none = none
+placed_at at (Some p) = Some (record { start = at + p.start; len = p.size })
+placed_at at None = None
 
-abbrev pub place_of : TextRead → Option Place
-place_of (text-answer.At p) = some p
-place_of text-answer.Missing = none
+abbrev pub texts_of : List ℕ → Option Texts → Option Identity
+texts_of s (Some t) = Some (texts_in s t)
+texts_of s None = None
 
-abbrev pub texts_of : List ℕ → TextsRead → Option Identity
-texts_of s (texts-answer.At t) = some (texts_in s t)
-texts_of s texts-answer.Missing = none
+abbrev pub block_of : List ℕ → Result Texts Fault → Answer Identity
+block_of s (Ok t) = granted (texts_in s t)
+block_of s (Err f) = refused (number_of f)
 
-abbrev pub block_of : List ℕ → BlockRead → Answer Identity
-block_of s (block-answer.Read t) = granted (texts_in s t)
-block_of s (block-answer.Fault f) = refused (number_of f)
+abbrev pub version_of : List ℕ → Result (Texts × Bool) Fault → Answer Version
+version_of s (Ok (t, deleted)) = granted (record { identifier = texts_in s t; deleted = deleted })
+version_of s (Err f) = refused (number_of f)
 
-abbrev pub version_of : List ℕ → VersionRead → Answer Version
-version_of s (version-answer.Read t deleted) = granted (record { identifier = texts_in s t; deleted = deleted })
-version_of s (version-answer.Fault f) = refused (number_of f)
-
-abbrev pub version_delete_of : List ℕ → DeleteRead → Answer VersionDelete
-version_delete_of s (delete-answer.Read t d) = granted (record { identifier = texts_in s t; delete_id = part_at s d })
-version_delete_of s (delete-answer.Fault f) = refused (number_of f)
+abbrev pub version_delete_of : List ℕ → Result (Texts × Place) Fault → Answer VersionDelete
+version_delete_of s (Ok (t, d)) = granted (record { identifier = texts_in s t; delete_id = part_at s d })
+version_delete_of s (Err f) = refused (number_of f)
 
 -- ---- the places told lie inside the part
 
@@ -72,21 +62,21 @@ pub record AllInside (s : List ℕ) (t : Texts) : Type 0 where
   pub bucket : Inside s t.bucket
   pub object : Inside s t.object
 
-pub record TextInside (s : List ℕ) (r : TextRead) : Type 0 where
-  pub text : (t : Place) → r ≡ text-answer.At t → Inside s t
+pub record TextInside (s : List ℕ) (r : Option Place) : Type 0 where
+  pub text : (t : Place) → r ≡ Some t → Inside s t
 
-pub record TextsInside (s : List ℕ) (r : TextsRead) : Type 0 where
-  pub texts : (t : Texts) → r ≡ texts-answer.At t → AllInside s t
+pub record TextsInside (s : List ℕ) (r : Option Texts) : Type 0 where
+  pub texts : (t : Texts) → r ≡ Some t → AllInside s t
 
-pub record BlockInside (s : List ℕ) (r : BlockRead) : Type 0 where
-  pub identifier : (t : Texts) → r ≡ block-answer.Read t → AllInside s t
+pub record BlockInside (s : List ℕ) (r : Result Texts Fault) : Type 0 where
+  pub identifier : (t : Texts) → r ≡ Ok t → AllInside s t
 
-pub record VersionInside (s : List ℕ) (r : VersionRead) : Type 0 where
-  pub identifier : (t : Texts) (deleted : Bool) → r ≡ version-answer.Read t deleted → AllInside s t
+pub record VersionInside (s : List ℕ) (r : Result (Texts × Bool) Fault) : Type 0 where
+  pub identifier : (t : Texts) (deleted : Bool) → r ≡ Ok (t, deleted) → AllInside s t
 
-pub record DeleteInside (s : List ℕ) (r : DeleteRead) : Type 0 where
-  pub identifier : (t : Texts) (d : Place) → r ≡ delete-answer.Read t d → AllInside s t
-  pub delete_id : (t : Texts) (d : Place) → r ≡ delete-answer.Read t d → Inside s d
+pub record DeleteInside (s : List ℕ) (r : Result (Texts × Place) Fault) : Type 0 where
+  pub identifier : (t : Texts) (d : Place) → r ≡ Ok (t, d) → AllInside s t
+  pub delete_id : (t : Texts) (d : Place) → r ≡ Ok (t, d) → Inside s d
 
 -- ---- what the code knows on the way
 

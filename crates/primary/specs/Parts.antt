@@ -1,7 +1,7 @@
 -- The primary parts of blocks, versions and version deletes (document 01, "The value", and its refusals 16 to 18; request 4's 22; docs/FORMAT.md,
 -- Tables 4 to 7).
 use Rattle.std.specs.Prelude.{ℕ, Bool, false, cond, ◌||◌, List, [], ◌∷◌, eqb, length}
-use Rattle.std.proofs.Math.Option.{Option, none, some}
+use Rattle.std.specs.Prelude.{Option, None, Some}
 use Rattle.refusals.specs.Answers.{Answer, refused, granted, or_refused, if_once}
 use Rattle.msgpack.specs.Items.{Passage, whole, cut, too_deep, pass_item, depth_allowed}
 use Rattle.msgpack.specs.Lookup.{Under, found, missing, broken, at_place, if_there}
@@ -64,11 +64,11 @@ texts_by ulid bucket object =
     if_there ulid λ u.
     if_there bucket λ b.
     if_there object λ o.
-    some (identity u b o)
+    Some (identity u b o)
 
 module _ {I : Type 0} (view : View I) where
   unfoldable pub text_under : List ℕ → I → Option (List ℕ)
-  text_under key m = at_place none view.text (view.under key m)
+  text_under key m = at_place None view.text (view.under key m)
 
   -- the texts `v`, `b`, `o`
   unfoldable pub texts_under : I → Option Identity
@@ -76,7 +76,7 @@ module _ {I : Type 0} (view : View I) where
 
   -- the delete flag; absent means false
   unfoldable pub deleted_under : I → Option Bool
-  deleted_under m = at_place (some false) view.boolean (view.under deleted_key m)
+  deleted_under m = at_place (Some false) view.boolean (view.under deleted_key m)
 
 -- ---- 18: the rules for texts
 
@@ -85,7 +85,7 @@ abbrev pub valid : Identity → Option Identity
 valid i = identity_of i.ulid i.bucket i.object
 
 unfoldable pub ulid_of : List ℕ → Option (List ℕ)
-ulid_of t = cond (is_ulid t) (some t) none
+ulid_of t = cond (is_ulid t) (Some t) None
 
 -- ---- a block: the identifier under `I`, in one of two shapes
 
@@ -95,16 +95,16 @@ pub data Shape : Type 0 where
   separate : Identity → Shape  -- a map's three texts
 
 abbrev pub shape_of : Option (List ℕ) → Option Identity → Option Shape
-shape_of (some t) three = some (composite t)
-shape_of none (some i) = some (separate i)
-shape_of none none = none
+shape_of (Some t) three = Some (composite t)
+shape_of None (Some i) = Some (separate i)
+shape_of None None = None
 
 module _ {I : Type 0} (view : View I) where
   unfoldable pub shape_at : I → Option Shape
   shape_at i = shape_of (view.text i) (texts_under view i)
 
   unfoldable pub shape_under : I → Option Shape
-  shape_under m = at_place none shape_at (view.under identifier_key m)
+  shape_under m = at_place None shape_at (view.under identifier_key m)
 
 abbrev pub identity_by : Shape → Option Identity
 identity_by (composite t) = identity_in t

@@ -1,6 +1,6 @@
 -- Primary parts that are seen alike read alike: the rules look at a part through its view alone.
 use Rattle.std.specs.Prelude.{ℕ, Bool, true, false, ◌||◌, List, ◌≡◌}
-use Rattle.std.proofs.Math.Option.{none, some}
+use Rattle.std.specs.Prelude.{None, Some}
 use Rattle.std.proofs.Math.Path.{refl}
 use Rattle.std.proofs.Common.{sym, ap, ◌∙◌}
 use Rattle.slices.specs.Logic.{neither_so}
@@ -15,7 +15,7 @@ module _ {I J : Type 0} (v : View I) (w : View J) (R : I → J → Type 0) (alik
   unfolding text_under
   text_alike key i j same = by same
     where
-      by : {o : Under I} {p : Under J} → SameUnder R o p → at_place none v.text o ≡ at_place none w.text p
+      by : {o : Under I} {p : Under J} → SameUnder R o p → at_place None v.text o ≡ at_place None w.text p
       by (both_found r) = alike.text r
       by both_missing = refl
       by both_broken = refl
@@ -24,7 +24,7 @@ module _ {I J : Type 0} (v : View I) (w : View J) (R : I → J → Type 0) (alik
   unfolding deleted_under
   flag_alike i j same = by same
     where
-      by : {o : Under I} {p : Under J} → SameUnder R o p → at_place (some false) v.boolean o ≡ at_place (some false) w.boolean p
+      by : {o : Under I} {p : Under J} → SameUnder R o p → at_place (Some false) v.boolean o ≡ at_place (Some false) w.boolean p
       by (both_found r) = alike.boolean r
       by both_missing = refl
       by both_broken = refl
@@ -69,7 +69,7 @@ module _ {I J : Type 0} (v : View I) (w : View J) (R : I → J → Type 0) (alik
   block_alike i j r k inner = rw (block_repeats_alike i j r) (ap (λ s. block_by s (block_repeats w j)) (by k.0 inner))
     where
       by : {o : Under I} {p : Under J} → SameUnder R o p → ((a : I) (b : J) → o ≡ found a → R a b → SameKeys v w R identity_keys a b)
-          → at_place none (shape_at v) o ≡ at_place none (shape_at w) p
+          → at_place None (shape_at v) o ≡ at_place None (shape_at w) p
       by (both_found {i = a} {j = b} x) h = shape_alike a b x (h a b refl x)
       by both_missing h = refl
       by both_broken h = refl

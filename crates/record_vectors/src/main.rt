@@ -4,73 +4,90 @@
 // what is found.
 #![tactic(auto)]
 
-use crate::input::{read_field, read_number};
 use crate::show::say;
+use crate::writings::Writing;
+use console::{read_field, read_number};
 
-mod input;
 mod names;
 mod pack_lists;
 mod readings;
 mod show;
 mod writings;
 
-const IDENTIFIER: usize = 0;
+// What is done with a vector's bytes.
+#[derive(Clone, Copy)]
+enum Kind {
+    Identifier,
+    Value,
+    Block,
+    Version,
+    Delete,
+    Record,
+    At,
+    Parts,
+    Walk,
+    PackList,
+    FindBlock,
+    Names,
+    Write(Writing),
+}
 
-const VALUE: usize = 1;
+impl From<usize> for Kind {
+    fn from(number: usize) -> Kind {
+        match number {
+            0 => Kind::Identifier,
+            1 => Kind::Value,
+            2 => Kind::Block,
+            3 => Kind::Version,
+            4 => Kind::Delete,
+            5 => Kind::Record,
+            6 => Kind::At,
+            7 => Kind::Parts,
+            8 => Kind::Walk,
+            9 => Kind::PackList,
+            10 => Kind::FindBlock,
+            11 => Kind::Names,
+            12 => Kind::Write(Writing::Block),
+            13 => Kind::Write(Writing::Version),
+            14 => Kind::Write(Writing::Delete),
+            15 => Kind::Write(Writing::PackList),
+            _ => Kind::Write(Writing::DeleteOf),
+        }
+    }
+}
 
-const BLOCK: usize = 2;
-
-const VERSION: usize = 3;
-
-const DELETE: usize = 4;
-
-const RECORD: usize = 5;
-
-const AT: usize = 6;
-
-const PARTS: usize = 7;
-
-const WALK: usize = 8;
-
-const PACK_LIST: usize = 9;
-
-const FIND_BLOCK: usize = 10;
-
-const NAMES: usize = 11;
-
-fn run_kind(rt: &(impl Input + Print), kind: usize, bytes: &[u8]) {
+fn run_kind(rt: &(impl Input + Print), kind: Kind, bytes: &[u8]) {
     match kind {
-        IDENTIFIER => readings::composite(rt, bytes),
-        VALUE => readings::header(rt, bytes),
-        BLOCK => readings::block(rt, bytes),
-        VERSION => readings::version(rt, bytes),
-        DELETE => readings::version_delete(rt, bytes),
-        RECORD => readings::record(rt, bytes, read_number(rt)),
-        AT => readings::at_place(rt, bytes, read_number(rt)),
-        PARTS => readings::parts(rt, bytes),
-        WALK => readings::walked(rt, bytes, read_number(rt)),
-        PACK_LIST => pack_lists::entries(rt, bytes),
-        FIND_BLOCK => pack_lists::found(rt, bytes, read_number(rt)),
-        NAMES => names::run(rt, bytes),
-        _ => writings::run(rt, kind, bytes),
+        Kind::Identifier => readings::composite(rt, bytes),
+        Kind::Value => readings::header(rt, bytes),
+        Kind::Block => readings::block(rt, bytes),
+        Kind::Version => readings::version(rt, bytes),
+        Kind::Delete => readings::version_delete(rt, bytes),
+        Kind::Record => readings::record(rt, bytes, read_number(rt, &mut [0; 8])),
+        Kind::At => readings::at_place(rt, bytes, read_number(rt, &mut [0; 8])),
+        Kind::Parts => readings::parts(rt, bytes),
+        Kind::Walk => readings::walked(rt, bytes, read_number(rt, &mut [0; 8])),
+        Kind::PackList => pack_lists::entries(rt, bytes),
+        Kind::FindBlock => pack_lists::found(rt, bytes, read_number(rt, &mut [0; 8])),
+        Kind::Names => names::run(rt, bytes),
+        Kind::Write(writing) => writings::run(rt, writing, bytes),
     }
 }
 
 fn run_vector(rt: &(impl Input + Print), buffer: &mut [u8]) {
     let title = read_field(rt, buffer);
-    say(rt, &buffer[0..title]);
-    let kind = read_number(rt);
+    say(rt, &buffer[..title]);
+    let kind = Kind::from(read_number(rt, &mut [0; 8]));
     let n = read_field(rt, buffer);
-    run_kind(rt, kind, &buffer[0..n]);
+    run_kind(rt, kind, &buffer[..n]);
     say(rt, b"\n");
 }
 
 // Below 65,536 of them, so that a wrong input too comes to an end.
 fn run(rt: &(impl Input + Print), buffer: &mut [u8]) {
-    let mut left = read_number(rt) % 65536;
-    while 0 < left {
+    let count = read_number(rt, &mut [0; 8]) % 65536;
+    for _ in 0..count {
         run_vector(rt, buffer);
-        left -= 1;
     }
 }
 

@@ -1,7 +1,7 @@
 // Identifiers held by value: made of three texts, and compared.
-use crate::input::{read_field, read_number};
 use crate::show;
 use crate::show::{say_number, say_refusal};
+use console::{read_field, read_number};
 use held_identifier::Identifier;
 
 // ULID, bucket and object, with slashes behind them in the arrays, where they play no part; and the
@@ -16,23 +16,21 @@ pub(crate) fn read_identifier(rt: &impl Input) -> Identifier {
     Identifier {
         ulid,
         bucket,
-        bucketlen: read_number(rt),
+        bucketlen: read_number(rt, &mut [0; 8]),
         object,
-        objectlen: read_number(rt),
+        objectlen: read_number(rt, &mut [0; 8]),
     }
 }
 
 // The identifier of the texts, and whether the other is the same.
-fn say_made(rt: &impl Print, r: held_identifier::Reading, other: Identifier) {
-    if r.valid {
-        show::say_identifier(rt, r.id);
-        say_number(
-            rt,
-            b'=',
-            held_identifier::same_identifier(r.id, other) as usize,
-        );
-    } else {
-        say_refusal(rt, 18);
+fn say_made(rt: &impl Print, made: Option<Identifier>, other: Identifier) {
+    match made {
+        Some(id) => {
+            show::say_identifier(rt, id);
+            let same = held_identifier::same_identifier(id, other);
+            say_number(rt, '=', same as usize);
+        }
+        None => say_refusal(rt, 18),
     }
 }
 
@@ -44,14 +42,8 @@ pub(crate) fn run(rt: &(impl Input + Print), ulid: &[u8]) {
     let b = read_field(rt, &mut bucket);
     let o = read_field(rt, &mut object);
     let other = read_identifier(rt);
-    say_made(
-        rt,
-        held_identifier::from_parts(ulid, &bucket[0..b], &object[0..o]),
-        other,
-    );
-    say_number(
-        rt,
-        b'~',
-        held_identifier::has_name(other, &bucket[0..b], &object[0..o]) as usize,
-    );
+    let made = held_identifier::from_parts(ulid, &bucket[..b], &object[..o]);
+    say_made(rt, made, other);
+    let named = held_identifier::has_name(other, &bucket[..b], &object[..o]);
+    say_number(rt, '~', named as usize);
 }

@@ -11,69 +11,57 @@ pub(crate) fn say(rt: &impl Print, text: &[u8]) {
     let _ = rt.write_all(text);
 }
 
-fn say_letter(rt: &impl Print, letter: u8) {
-    let label = [b' ', letter, b' '];
-    say(rt, &label);
-}
-
-pub(crate) fn say_number(rt: &impl Print, letter: u8, n: usize) {
-    say_letter(rt, letter);
-    let _ = print!(rt; "{n}");
+pub(crate) fn say_number(rt: &impl Print, letter: char, n: usize) {
+    let _ = print!(rt; " {letter} {n}");
 }
 
 pub(crate) fn say_refusal(rt: &impl Print, number: u8) {
-    say(rt, b" refused ");
-    let _ = print!(rt; "{number}");
+    let _ = print!(rt; " refused {number}");
 }
 
 // A length and a hash.
-pub(crate) fn say_hash(rt: &impl Print, letter: u8, length: usize, hash: u64) {
-    say_number(rt, letter, length);
-    say(rt, b" ");
-    let _ = print!(rt; "{hash:016x}");
+pub(crate) fn say_hash(rt: &impl Print, letter: char, length: usize, hash: u64) {
+    let _ = print!(rt; " {letter} {length} {hash:016x}");
 }
 
 // Bytes, by their length and their hash.
-pub(crate) fn say_hashed(rt: &impl Print, letter: u8, s: &[u8]) {
+pub(crate) fn say_hashed(rt: &impl Print, letter: char, s: &[u8]) {
     say_hash(rt, letter, s.len(), xxh64::xxh64(s));
 }
 
-fn say_text(rt: &impl Print, letter: u8, text: &[u8]) {
-    say_letter(rt, letter);
+fn say_text(rt: &impl Print, letter: char, text: &[u8]) {
+    let _ = print!(rt; " {letter} ");
     say(rt, text);
 }
 
-pub(crate) fn say_text_in(rt: &impl Print, letter: u8, s: &[u8], t: Place) {
+pub(crate) fn say_text_in(rt: &impl Print, letter: char, s: &[u8], t: Place) {
     say_text(rt, letter, slices::part(s, t));
 }
 
 pub(crate) fn say_texts(rt: &impl Print, s: &[u8], t: Texts) {
-    say_text_in(rt, b'u', s, t.ulid);
-    say_text_in(rt, b'b', s, t.bucket);
-    say_text_in(rt, b'o', s, t.object);
+    say_text_in(rt, 'u', s, t.ulid);
+    say_text_in(rt, 'b', s, t.bucket);
+    say_text_in(rt, 'o', s, t.object);
 }
 
 pub(crate) fn say_identifier(rt: &impl Print, id: Identifier) {
-    let ulid = id.ulid;
-    let bucket = id.bucket;
-    let object = id.object;
-    say_text(rt, b'u', &ulid);
-    say_text(rt, b'b', slices::front(&bucket, id.bucketlen));
-    say_text(rt, b'o', slices::front(&object, id.objectlen));
+    say_text(rt, 'u', &id.ulid);
+    say_text(rt, 'b', slices::front(&id.bucket, id.bucketlen));
+    say_text(rt, 'o', slices::front(&id.object, id.objectlen));
 }
 
-fn say_part(rt: &impl Print, letter: u8, start: usize, p: Part) {
-    say_number(rt, letter, std::num::wrapping_sub_usize(p.start, start));
-    say_number(rt, b'l', p.len);
-    say_number(rt, b'c', p.compression as usize);
-    say_number(rt, b'z', p.encrypted as usize);
+fn say_part(rt: &impl Print, letter: char, start: usize, p: Part) {
+    say_number(rt, letter, p.start.wrapping_sub(start));
+    say_number(rt, 'l', p.len);
+    say_number(rt, 'c', p.compression as usize);
+    say_number(rt, 'z', p.encrypted as usize);
 }
 
 // What a value that starts at a place tells, as places of the value: `v`, the primary part, how many
 // maps stand in `s`, and the secondary part.
 pub(crate) fn say_told(rt: &impl Print, start: usize, t: Told) {
-    say_number(rt, b'v', t.version as usize);
-    say_part(rt, b'e', start, t.primary);
-    say_number(rt, b's', t.present as usize);
-    say_part(rt, b'@', start, t.secondary);
+    say_number(rt, 'v', t.version as usize);
+    say_part(rt, 'e', start, t.primary);
+    say_number(rt, 's', t.present as usize);
+    say_part(rt, '@', start, t.secondary);
 }

@@ -1,52 +1,58 @@
 // The kinds of vectors that write. The vector's bytes are what is handed in.
 ghost use Rattle.std.specs.Prelude.{◌≡◌, length};
 
-use crate::input::{read_field, read_number};
 use crate::names::read_identifier;
 use crate::readings;
-use crate::show::{say, say_number, say_refusal};
-use writer::Written;
+use crate::show::{say_number, say_refusal};
+use console::{read_field, read_number};
+use refusals::Unwritten;
 
-const BLOCK: usize = 12;
+// Which record is written: a delete of texts, or of an identifier.
+#[derive(Clone, Copy)]
+pub(crate) enum Writing {
+    Block,
+    Version,
+    Delete,
+    PackList,
+    DeleteOf,
+}
 
-const VERSION: usize = 13;
-
-const DELETE: usize = 14;
-
-const PACK_LIST: usize = 15;
-
-fn write(rt: &impl Input, kind: usize, out: &mut [u8], used: usize, s: &[u8]) -> Written {
-    match kind {
-        BLOCK => writer::write_block(out, used, read_identifier(rt), s),
-        VERSION => writer::write_version(out, used, s),
-        DELETE => writer::write_delete(out, used, s),
-        PACK_LIST => writer::write_pack_list(out, used, s),
-        _ => writer::write_delete_of(out, used, read_identifier(rt), s),
+fn write(
+    rt: &impl Input,
+    writing: Writing,
+    out: &mut [u8],
+    used: usize,
+    s: &[u8],
+) -> Result<usize, Unwritten> {
+    match writing {
+        Writing::Block => writer::write_block(out, used, read_identifier(rt), s),
+        Writing::Version => writer::write_version(out, used, s),
+        Writing::Delete => writer::write_delete(out, used, s),
+        Writing::PackList => writer::write_pack_list(out, used, s),
+        Writing::DeleteOf => writer::write_delete_of(out, used, read_identifier(rt), s),
     }
 }
 
 // The count, and what the record reads as in the pack of that length; and the hash of the whole buffer.
-fn say_written(rt: &impl Print, buffer: &[u8], used: usize, w: Written) {
-    match w {
-        Written::Count(n) => {
-            say_number(rt, b'n', n);
+fn say_written(rt: &impl Print, buffer: &[u8], used: usize, written: Result<usize, Unwritten>) {
+    match written {
+        Ok(n) => {
+            say_number(rt, 'n', n);
             readings::at_place(rt, slices::front(buffer, n), used);
         }
-        Written::Short => say_refusal(rt, 19),
-        Written::Inadmissible => say_refusal(rt, 20),
+        Err(u) => say_refusal(rt, u8::from(u)),
     }
-    say(rt, b" buffer ");
     let hash = xxh64::xxh64(buffer);
-    let _ = print!(rt; "{hash:016x}");
+    let _ = print!(rt; " buffer {hash:016x}");
 }
 
 // Lends the front of the buffer.
-fn write_to(rt: &(impl Input + Print), kind: usize, buffer: &mut [u8], s: &[u8]) {
-    let room = read_number(rt);
-    let used = read_number(rt);
+fn write_to(rt: &(impl Input + Print), writing: Writing, buffer: &mut [u8], s: &[u8]) {
+    let room = read_number(rt, &mut [0; 8]);
+    let used = read_number(rt, &mut [0; 8]);
     if room <= buffer.len() {
-        let w = write(rt, kind, &mut buffer[0..room], used, s);
-        say_written(rt, buffer, used, w);
+        let written = write(rt, writing, &mut buffer[..room], used, s);
+        say_written(rt, buffer, used, written);
     }
 }
 
@@ -60,8 +66,8 @@ fn output() -> [u8; 70000]
 
 // Behind the bytes follow the pack so far, how much of the buffer is lent, the count so far, and the
 // identifier of the kinds that take one.
-pub(crate) fn run(rt: &(impl Input + Print), kind: usize, s: &[u8]) {
+pub(crate) fn run(rt: &(impl Input + Print), writing: Writing, s: &[u8]) {
     let mut buffer = output();
     read_field(rt, &mut buffer);
-    write_to(rt, kind, &mut buffer, s);
+    write_to(rt, writing, &mut buffer, s);
 }

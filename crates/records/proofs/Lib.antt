@@ -1,2 +1,3 @@
 mod Places
 mod Readings
+pub mod Mapped

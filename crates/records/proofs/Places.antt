@@ -3,20 +3,17 @@ use Prim.Native.Nat.{ℕ}
 use mathlib.Core.Bool.{Bool}
 use mathlib.Core.List.{List}
 use mathlib.Core.Path.{◌≡◌, refl, subst}
+use Rattle.std.specs.Prelude.{Ok}
 use Rattle.slices.specs.Logic.{absurd_numbers}
 use Rattle.slices.specs.Places.{part_at, Inside, Within, shifted_within, shifted_part}
 use Rattle.slices.specs.declared.Place.{Place}
-use Rattle.tlv.specs.declared.Fault as tlv
 use Rattle.primary.specs.Answers.{texts_in, AllInside}
 use Rattle.primary.specs.declared.Texts.{Texts}
 use Rattle.records.specs.Answers.{kind_in, contents_in, shift_texts, shift_kind, KindInside, ContentsInside, PartInside, ContentsWithin, PlacesInside, RecordInside, IsValue, PlaceInside}
 use Rattle.records.specs.declared.Kind.{Kind}
 use Rattle.records.specs.declared.Kind.TheVariants.{Block, Version, VersionDelete, PackList}
 use Rattle.records.specs.declared.Record.{Record}
-use Rattle.records.specs.declared.Fault.{Fault}
-use Rattle.records.specs.declared.PartRead.TheVariants as part-answer
-use Rattle.records.specs.declared.Reading.TheVariants as reading-answer
-use Rattle.records.specs.declared.AtPlace.TheVariants as place-answer
+use Rattle.records.specs.declared.Placed.{Placed}
 
 -- ---- a part
 
@@ -33,25 +30,22 @@ module _ (part : List ℕ) where
   list_kind : KindInside part PackList
   list_kind = record { delete_id_lem = λ id e. absurd_numbers (cc) }
 
-  read_inside : (t : Texts) (k : Kind) → ContentsInside part t k → PartInside part (part-answer.Read t k)
+  read_inside : (t : Texts) (k : Kind) → ContentsInside part t k → PartInside part (Ok (t, k))
   read_inside t k h = record {
-    contents = λ u l e. let texts : t ≡ u = cc in let kinds : k ≡ l = cc in rw (← texts, ← kinds) h;
+    contents = λ u l e. let same : ◌≡◌ {A = Texts × Kind} (t, k) (u, l) = cc in subst (λ (p : Texts × Kind). ContentsInside part p.0 p.1) same h;
   }
 
-  pub block_inside : (t : Texts) → AllInside part t → PartInside part (part-answer.Read t Block)
+  pub block_inside : (t : Texts) → AllInside part t → PartInside part (Ok (t, Block))
   block_inside t h = read_inside t Block (record { identifier = h; kind = block_kind_lem })
 
-  pub version_inside : (t : Texts) (deleted : Bool) → AllInside part t → PartInside part (part-answer.Read t (Version deleted))
+  pub version_inside : (t : Texts) (deleted : Bool) → AllInside part t → PartInside part (Ok (t, Version deleted))
   version_inside t deleted h = read_inside t (Version deleted) (record { identifier = h; kind = version_kind deleted })
 
-  pub delete_inside : (t : Texts) (id : Place) → AllInside part t → Inside part id → PartInside part (part-answer.Read t (VersionDelete id))
+  pub delete_inside : (t : Texts) (id : Place) → AllInside part t → Inside part id → PartInside part (Ok (t, VersionDelete id))
   delete_inside t id h i = read_inside t (VersionDelete id) (record { identifier = h; kind = delete_kind_lem id i })
 
-  pub list_inside : (t : Texts) → AllInside part t → PartInside part (part-answer.Read t PackList)
+  pub list_inside : (t : Texts) → AllInside part t → PartInside part (Ok (t, PackList))
   list_inside t h = read_inside t PackList (record { identifier = h; kind = list_kind })
-
-  pub none_inside : (f : Fault) → PartInside part (part-answer.Refused f)
-  none_inside f = record { contents = λ t k e. absurd_numbers (cc) }
 
 -- ---- from the part of s at a place to s
 
@@ -87,29 +81,14 @@ module _ (s : List ℕ) (p : Place) where
 -- ---- a record
 
 module _ (s : List ℕ) where
-  pub record_inside : (d : Record) → PlacesInside s d → RecordInside s (reading-answer.Record d)
+  pub record_inside : (d : Record) → PlacesInside s d → RecordInside s (Ok d)
   record_inside d h = record { places = λ other e. let same : d ≡ other = cc in rw (← same) h }
-
-  pub refused_inside : (f : Fault) → RecordInside s (reading-answer.Refused f)
-  refused_inside f = record { places = λ d e. absurd_numbers (cc) }
 
 -- ---- a place of a pack
 
 module _ (s : List ℕ) (at : ℕ) where
-  pub place_inside : (d : Record) (v : Place) → IsValue s at v → PlacesInside s d → PlaceInside s at (place-answer.Record d v)
-  place_inside d v i h = record {
-    value = λ e w q. let same : v ≡ w = cc in rw (← same) i;
-    places = λ e w q. let same : d ≡ e = cc in rw (← same) h;
+  pub place_inside : (p : Placed) → IsValue s at p.value → PlacesInside s p.«record» → PlaceInside s at (Ok p)
+  place_inside p i h = record {
+    value = λ q e. let same : p ≡ q = cc in rw (← same) i;
+    places = λ q e. let same : p ≡ q = cc in rw (← same) h;
   }
-
-  pub no_outside : PlaceInside s at place-answer.Outside
-  no_outside = record { value = λ d v e. absurd_numbers (cc); places = λ d v e. absurd_numbers (cc) }
-
-  pub no_too_long : PlaceInside s at place-answer.TooLong
-  no_too_long = record { value = λ d v e. absurd_numbers (cc); places = λ d v e. absurd_numbers (cc) }
-
-  pub no_fault : (f : tlv.Fault) (place : ℕ) → PlaceInside s at (place-answer.Fault f place)
-  no_fault f place = record { value = λ d v e. absurd_numbers (cc); places = λ d v e. absurd_numbers (cc) }
-
-  pub no_refused : (f : Fault) → PlaceInside s at (place-answer.Refused f)
-  no_refused f = record { value = λ d v e. absurd_numbers (cc); places = λ d v e. absurd_numbers (cc) }

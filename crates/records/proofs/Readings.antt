@@ -2,7 +2,7 @@
 use Prim.Native.Nat.{ℕ, ◌+◌, ◌-◌, ◌≤◌, ◌<◌}
 use mathlib.Core.Bool.{true, false, not, ◌||◌}
 use mathlib.Core.List.{List}
-use mathlib.Core.Option.{Option, none, some}
+use Rattle.std.specs.Prelude.{Option, None, Some, Result, Ok, Err}
 use mathlib.Core.Path.{◌≡◌, refl, sym, ap, ◌∙◌}
 use native.Mathlib.Omega.{arith}
 use borrow.Author.Tests.{eq-eqb, ne_eqb, le-leb, lt-leb, le-ltb, lt-ltb}
@@ -25,15 +25,16 @@ use Rattle.value.specs.declared.Told.{Told}
 use Rattle.primary.specs.declared.Texts.{Texts}
 use Rattle.pack_list.specs.Lists.{pack_list}
 use Rattle.pack_list.specs.Answers.{list_in}
+use Rattle.pack_list.specs.Answers as list
+use Rattle.pack_list.specs.declared.Fault.{Fault as ListFault}
+use Rattle.pack_list.specs.declared.Fault.TheVariants as list-fault
 use Rattle.pack_list.specs.declared.PackList as listed
 use Rattle.records.specs.Record.{is_known, Contents, of_pack_list, contents, Record, told_rows, primary_in, with_told, read_record, alone, refused_at, at_place, by_step, record_at, told_from, answer_from, there_from}
-use Rattle.records.specs.Answers.{number_of, contents_in, part_of, record_in, shift_texts, shift_kind, ContentsInside, PartInside, place_of_part, ToldInside, PlacesInside, IsValue}
+use Rattle.records.specs.Answers.{number_of, of_list_fault, contents_in, part_of, record_in, shift_texts, shift_kind, ContentsInside, PartInside, place_of_part, ToldInside, PlacesInside, IsValue}
 use Rattle.records.specs.declared.Kind.{Kind}
 use Rattle.records.specs.declared.Kind.TheVariants as kind-answer
 use Rattle.records.specs.declared.Fault.{Fault}
 use Rattle.records.specs.declared.Record as declared-record
-use Rattle.records.specs.declared.PartRead.{PartRead}
-use Rattle.records.specs.declared.PartRead.TheVariants.{Read, Refused}
 use Rattle.records.proofs.Places.{contents_shifted, contents_within}
 
 -- ---- a value at a place of the pack
@@ -63,15 +64,19 @@ module _ (limit : ℕ) (s : List ℕ) (v : Place) (t : Told) (e : reading limit 
   value_read tag u is a f = f ∙ rw (is, e, primary_there) (by (lowest (told_rows tag (telling_of t))) (contents tag (primary_in (part_at s v) t)))
     where
       by : (o : Option ℕ) (c : Answer Contents) → unless o (with_told (told_from v.start t) c) ≡ answer_from v.start (unless o (with_told t c))
-      by none (granted c) = refl
-      by none (refused n) = refl
-      by (some n) c = refl
+      by None (granted c) = refl
+      by None (refused n) = refl
+      by (Some n) c = refl
 
 -- ---- the primary part of a pack list, whose entries the part tells
 
 pub list_read : (part : List ℕ) (l : listed.PackList) → granted (list_in part l) ≡ pack_list part
     → granted (contents_in part part l.identifier kind-answer.PackList) ≡ of_pack_list (pack_list part)
 list_read part l e = rw (← e)
+
+pub list_fault_number : (f : ListFault) → number_of (of_list_fault f) ≡ list.number_of f
+list_fault_number (list-fault.Part f) = refl
+list_fault_number list-fault.Unfilled = refl
 
 -- ---- the primary part, as it is lent
 
@@ -82,14 +87,14 @@ module _ (s : List ℕ) (told : Told) where
   lent_is : lent ≡ primary_in s told
   lent_is = let e : told.primary.start + told.primary.len - told.primary.start ≡ told.primary.len = omega arith in ap (λ n. take n (drop told.primary.start s)) e
 
-  module _ (tag : ℕ) (r : PartRead) (answer : (part_of lent r ≡ contents tag lent) × PartInside lent r) where
+  module _ (tag : ℕ) (r : Result (Texts × Kind) Fault) (answer : (part_of lent r ≡ contents tag lent) × PartInside lent r) where
     answered : part_of (primary_in s told) r ≡ contents tag (primary_in s told)
     answered = rw lent_is at answer.0
 
-    pub part_refused : (f : Fault) → r ≡ Refused f → refused (number_of f) ≡ with_told told (contents tag (primary_in s told))
+    pub part_refused : (f : Fault) → r ≡ Err f → refused (number_of f) ≡ with_told told (contents tag (primary_in s told))
     part_refused f e = ap (with_told told) (sym (ap (part_of (primary_in s told)) e) ∙ answered)
 
-    module _ (t : Texts) (k : Kind) (e : r ≡ Read t k) where
+    module _ (t : Texts) (k : Kind) (e : r ≡ Ok (t, k)) where
       abbrev shifted : declared-record.Record
       shifted = record { told = told; identifier = shift_texts told.primary.start t; kind = shift_kind told.primary.start k }
 

@@ -1,9 +1,10 @@
 -- What the answers of the code say: document 01's numbers, and the contents at the places told.
-use Rattle.std.specs.Prelude.{ℕ, ◌+◌, ◌^◌, ◌<◌, List, [], ◌≡◌, drop}
+use Rattle.std.specs.Prelude.{ℕ, ◌+◌, ◌^◌, ◌<◌, List, [], ◌≡◌, drop, Result, Ok, Err}
 use Rattle.slices.specs.Places.{part_at, Inside, Within, shift_place}
 use Rattle.slices.specs.declared.Place.{Place}
 use Rattle.refusals.specs.Answers.{Answer, refused, granted}
 use Rattle.tlv.specs.Found as tlv
+use Rattle.pack.specs.Reading.{fault_number, fault_place}
 use Rattle.value.specs.Reading as value
 use Rattle.value.specs.declared.Part.{Part}
 use Rattle.value.specs.declared.Told.{Told}
@@ -11,18 +12,17 @@ use Rattle.primary.specs.Answers as primary
 use Rattle.primary.specs.Answers.{texts_in, AllInside}
 use Rattle.primary.specs.declared.Texts.{Texts}
 use Rattle.pack_list.specs.Lists as list
+use Rattle.pack_list.specs.declared.Fault.{Fault as ListFault}
+use Rattle.pack_list.specs.declared.Fault.TheVariants as list-fault
 use Rattle.records.specs.Record.{Kind, block, version, version_delete, pack_list, Contents, Record, primary_in, AtPlace, there, refused_at, alone}
 use Rattle.records.specs.declared.Kind as declared-kind
 use Rattle.records.specs.declared.Kind.TheVariants as kind-answer
 use Rattle.records.specs.declared.Record as declared-record
 use Rattle.records.specs.declared.Fault.{Fault}
 use Rattle.records.specs.declared.Fault.TheVariants.{Value, UnknownTag, Version, Encoded, Primary, Unfilled}
-use Rattle.records.specs.declared.PartRead.{PartRead}
-use Rattle.records.specs.declared.PartRead.TheVariants as part-answer
-use Rattle.records.specs.declared.Reading.{Reading}
-use Rattle.records.specs.declared.Reading.TheVariants as reading-answer
-use Rattle.records.specs.declared.AtPlace as declared-place
-use Rattle.records.specs.declared.AtPlace.TheVariants as place-answer
+use Rattle.records.specs.declared.Placed.{Placed}
+use Rattle.records.specs.declared.PlaceFault.{PlaceFault}
+use Rattle.records.specs.declared.PlaceFault.TheVariants as place-fault
 
 abbrev pub number_of : Fault → ℕ
 number_of (Value f) = value.number_of f
@@ -31,6 +31,11 @@ number_of Version = 14
 number_of Encoded = 15
 number_of (Primary f) = primary.number_of f
 number_of Unfilled = 21
+
+-- a pack list's refusal, as one of a record
+abbrev pub of_list_fault : ListFault → Fault
+of_list_fault (list-fault.Part f) = Primary f
+of_list_fault list-fault.Unfilled = Unfilled
 
 -- ---- contents at places
 
@@ -50,24 +55,23 @@ abbrev pub contents_in : (s part : List ℕ) → Texts → declared-kind.Kind �
 contents_in s part t k = record { identifier = texts_in s t; kind = kind_in s part k }
 
 -- of the primary part
-abbrev pub part_of : List ℕ → PartRead → Answer Contents
-part_of part (part-answer.Read t k) = granted (contents_in part part t k)
-part_of part (part-answer.Refused f) = refused (number_of f)
+abbrev pub part_of : List ℕ → Result (Texts × declared-kind.Kind) Fault → Answer Contents
+part_of part (Ok (t, k)) = granted (contents_in part part t k)
+part_of part (Err f) = refused (number_of f)
 
 -- of the pack
 abbrev pub record_in : List ℕ → declared-record.Record → Record
 record_in s r = record { told = r.told; contents = contents_in s (primary_in s r.told) r.identifier r.kind }
 
-abbrev pub answer_of : List ℕ → Reading → Answer Record
-answer_of s (reading-answer.Record r) = granted (record_in s r)
-answer_of s (reading-answer.Refused f) = refused (number_of f)
+abbrev pub answer_of : List ℕ → Result declared-record.Record Fault → Answer Record
+answer_of s (Ok r) = granted (record_in s r)
+answer_of s (Err f) = refused (number_of f)
 
-abbrev pub place_of : List ℕ → declared-place.AtPlace → AtPlace
-place_of s (place-answer.Record r value) = there (part_at s value) (record_in s r)
-place_of s place-answer.Outside = alone 20
-place_of s place-answer.TooLong = refused_at 1 0
-place_of s (place-answer.Fault f at) = refused_at (tlv.number_of f) at
-place_of s (place-answer.Refused f) = alone (number_of f)
+abbrev pub place_of : List ℕ → Result Placed PlaceFault → AtPlace
+place_of s (Ok p) = there (part_at s p.value) (record_in s p.«record»)
+place_of s (Err place-fault.Outside) = alone 20
+place_of s (Err (place-fault.Pack f)) = refused_at (fault_number f) (fault_place f)
+place_of s (Err (place-fault.Record f)) = alone (number_of f)
 
 -- ---- from places of the primary part, which begins at `by`, to places of the pack
 
@@ -94,8 +98,8 @@ pub record ContentsInside (part : List ℕ) (t : Texts) (k : declared-kind.Kind)
   pub identifier : AllInside part t
   pub kind : KindInside part k
 
-pub record PartInside (part : List ℕ) (r : PartRead) : Type 0 where
-  pub contents : (t : Texts) (k : declared-kind.Kind) → r ≡ part-answer.Read t k → ContentsInside part t k
+pub record PartInside (part : List ℕ) (r : Result (Texts × declared-kind.Kind) Fault) : Type 0 where
+  pub contents : (t : Texts) (k : declared-kind.Kind) → r ≡ Ok (t, k) → ContentsInside part t k
 
 -- the pack: the parts in it, and the contents in the primary part
 abbrev pub place_of_part : Part → Place
@@ -115,14 +119,14 @@ pub record PlacesInside (s : List ℕ) (d : declared-record.Record) : Type 0 whe
   pub told : ToldInside s d.told
   pub contents : ContentsWithin (place_of_part d.told.primary) d.identifier d.kind
 
-pub record RecordInside (s : List ℕ) (r : Reading) : Type 0 where
-  pub places : (d : declared-record.Record) → r ≡ reading-answer.Record d → PlacesInside s d
+pub record RecordInside (s : List ℕ) (r : Result declared-record.Record Fault) : Type 0 where
+  pub places : (d : declared-record.Record) → r ≡ Ok d → PlacesInside s d
 
 -- the value of a record at a place: it follows the header, is as long as that says, and lies inside
 pub record IsValue (s : List ℕ) (at : ℕ) (v : Place) : Type 0 where
   pub is : v ≡ record { start = at + 32; len = (tlv.header_of (drop at s)).length }
   pub inside : Inside s v
 
-pub record PlaceInside (s : List ℕ) (at : ℕ) (r : declared-place.AtPlace) : Type 0 where
-  pub value : (d : declared-record.Record) (v : Place) → r ≡ place-answer.Record d v → IsValue s at v
-  pub places : (d : declared-record.Record) (v : Place) → r ≡ place-answer.Record d v → PlacesInside s d
+pub record PlaceInside (s : List ℕ) (at : ℕ) (r : Result Placed PlaceFault) : Type 0 where
+  pub value : (p : Placed) → r ≡ Ok p → IsValue s at p.value
+  pub places : (p : Placed) → r ≡ Ok p → PlacesInside s p.«record»

@@ -1,7 +1,7 @@
 -- What a record that is read is, and that its reading depends on its tag and value alone.
 use Rattle.std.specs.Prelude.{ℕ, ◌+◌, ◌≤◌, Bool, true, false, cond, not, ◌||◌, List, ◌++◌, ◌↔◌, ◌≡◌, refl, eqb, length, take, drop}
 use Rattle.std.proofs.Common.{append_assoc, ap, ◌∙◌, arith, eq-eqb, eqb-true, le-ltb, length-append, drop_at, take_at}
-use Rattle.std.proofs.Math.Option.{none, some}
+use Rattle.std.specs.Prelude.{None, Some}
 use Rattle.std.proofs.lemmas.Bool.{lt-leb}
 use Rattle.std.proofs.Math.Seq.{drop-append_seam}
 use Rattle.slices.specs.Logic.{absurd_numbers}
@@ -44,24 +44,24 @@ unfolding told_rows lowest
 no_row tag t next a e = tag_test (is_known tag) refl e
   where
     compression_test : is_known tag ≡ true → t.version ≡ 0 → t.primary.encrypted ≡ false → (b : Bool)
-        → eqb t.primary.compression 0 ≡ b → unless (cond (not b) (some 15) none) next ≡ granted a → NoRow tag t × (next ≡ granted a)
+        → eqb t.primary.compression 0 ≡ b → unless (cond (not b) (Some 15) None) next ≡ granted a → NoRow tag t × (next ≡ granted a)
     compression_test k v z true p f = (record { known = k; version = v; not_encrypted = z; not_compressed = eqb-true _ _ p }, f)
     compression_test k v z false p f = absurd_numbers (cc)
 
     encryption_test : is_known tag ≡ true → t.version ≡ 0 → (b : Bool) → t.primary.encrypted ≡ b
-        → unless (cond (b || not (eqb t.primary.compression 0)) (some 15) none) next ≡ granted a → NoRow tag t × (next ≡ granted a)
+        → unless (cond (b || not (eqb t.primary.compression 0)) (Some 15) None) next ≡ granted a → NoRow tag t × (next ≡ granted a)
     encryption_test k v false p f = compression_test k v p (eqb t.primary.compression 0) refl f
     encryption_test k v true p f = absurd_numbers (cc)
 
     version_test : is_known tag ≡ true → (b : Bool) → eqb t.version 0 ≡ b
-        → unless (cond (not b) (some 14) (cond (t.primary.encrypted || not (eqb t.primary.compression 0)) (some 15) none)) next ≡ granted a
+        → unless (cond (not b) (Some 14) (cond (t.primary.encrypted || not (eqb t.primary.compression 0)) (Some 15) None)) next ≡ granted a
         → NoRow tag t × (next ≡ granted a)
     version_test k true p f = encryption_test k (eqb-true _ _ p) t.primary.encrypted refl f
     version_test k false p f = absurd_numbers (cc)
 
     tag_test : (b : Bool) → is_known tag ≡ b
-        → unless (cond (not b) (some 13)
-        (cond (not (eqb t.version 0)) (some 14) (cond (t.primary.encrypted || not (eqb t.primary.compression 0)) (some 15) none))) next ≡ granted a
+        → unless (cond (not b) (Some 13)
+        (cond (not (eqb t.version 0)) (Some 14) (cond (t.primary.encrypted || not (eqb t.primary.compression 0)) (Some 15) None))) next ≡ granted a
         → NoRow tag t × (next ≡ granted a)
     tag_test true p f = version_test p (eqb t.version 0) refl f
     tag_test false p f = absurd_numbers (cc)

@@ -11,11 +11,13 @@ ghost use Rattle.value.specs.Header.{telling_of};
 ghost use Rattle.primary.specs.Parts.{block, version, version_delete};
 ghost use Rattle.pack_list.specs.Lists.{pack_list};
 ghost use Rattle.records.specs.Record.{is_known, of_block, of_version, of_version_delete, of_pack_list, contents, told_rows, primary_in, with_told, read_record, record_at, part_from, told_from, answer_from, there_from};
-ghost use Rattle.records.specs.Answers.{number_of, part_of, answer_of, place_of, shift_texts, shift_kind, KindFits, PartInside, ToldInside, RecordInside, PlaceInside};
+ghost use Rattle.records.specs.declared.Fault.TheVariants.{Value, Primary};
+ghost use Rattle.records.specs.declared.PlaceFault.TheVariants.{Pack, Record as RecordFault};
+ghost use Rattle.records.specs.Answers.{number_of, of_list_fault, part_of, answer_of, place_of, shift_texts, shift_kind, KindFits, PartInside, ToldInside, RecordInside, PlaceInside};
 
-use primary::{BlockRead, DeleteRead, Texts, VersionRead};
+use primary::Texts;
 use slices::Place;
-use tlv::{RecordHeader, Step};
+use tlv::RecordHeader;
 use value::{Part, Told};
 
 pub const BLOCK: u16 = 0x626b;
@@ -43,16 +45,45 @@ pub enum Fault {
 }
 
 // The number of a refusal, as document 01 has it.
-pub fn number(f: Fault) -> u8
-    ensures { result ≡ number_of f }
-{
-    match f {
-        Fault::Value(f) => value::number(f),
-        Fault::UnknownTag => 13,
-        Fault::Version => 14,
-        Fault::Encoded => 15,
-        Fault::Primary(f) => primary::number(f),
-        Fault::Unfilled => 21,
+impl From<Fault> for u8 {
+    ghost from_gives = { λ f n. n ≡ number_of f };
+
+    fn from(f: Fault) -> u8 {
+        match f {
+            Fault::Value(value) => u8::from(value),
+            Fault::UnknownTag => 13,
+            Fault::Version => 14,
+            Fault::Encoded => 15,
+            Fault::Primary(part) => u8::from(part),
+            Fault::Unfilled => 21,
+        }
+    }
+}
+
+impl From<value::Fault> for Fault {
+    ghost from_gives = { λ a b. b ≡ Value a };
+
+    fn from(f: value::Fault) -> Fault {
+        Fault::Value(f)
+    }
+}
+
+impl From<primary::Fault> for Fault {
+    ghost from_gives = { λ a b. b ≡ Primary a };
+
+    fn from(f: primary::Fault) -> Fault {
+        Fault::Primary(f)
+    }
+}
+
+impl From<pack_list::Fault> for Fault {
+    ghost from_gives = { λ a b. b ≡ of_list_fault a };
+
+    fn from(f: pack_list::Fault) -> Fault {
+        match f {
+            pack_list::Fault::Part(p) => Fault::Primary(p),
+            pack_list::Fault::Unfilled => Fault::Unfilled,
+        }
     }
 }
 
@@ -77,68 +108,42 @@ pub struct Record {
     pub kind: Kind,
 }
 
-#[derive(Clone, Copy)]
-pub enum Reading {
-    Record(Record),
-    Refused(Fault),
-}
-
 // ---- the primary part
 
-#[derive(Clone, Copy)]
-enum PartRead {
-    Read(Texts, Kind),
-    Refused(Fault),
-}
-
-fn block(part: &[u8]) -> PartRead
+fn block(part: &[u8]) -> Result<(Texts, Kind), Fault>
     ensures result_value { part_of part.now result ≡ of_block (block part.now) }
     ensures inside { PartInside part.now result }
 {
-    match primary::read_block(part) {
-        BlockRead::Read(t) => PartRead::Read(t, Kind::Block),
-        BlockRead::Fault(f) => PartRead::Refused(Fault::Primary(f)),
-    }
+    let t = primary::read_block(part)?;
+    Ok((t, Kind::Block))
 }
 
-fn version(part: &[u8]) -> PartRead
+fn version(part: &[u8]) -> Result<(Texts, Kind), Fault>
     ensures result_value { part_of part.now result ≡ of_version (version part.now) }
     ensures inside { PartInside part.now result }
 {
-    match primary::read_version(part) {
-        VersionRead::Read(t, deleted) => PartRead::Read(t, Kind::Version(deleted)),
-        VersionRead::Fault(f) => PartRead::Refused(Fault::Primary(f)),
-    }
+    let (t, deleted) = primary::read_version(part)?;
+    Ok((t, Kind::Version(deleted)))
 }
 
-fn version_delete(part: &[u8]) -> PartRead
+fn version_delete(part: &[u8]) -> Result<(Texts, Kind), Fault>
     ensures result_value { part_of part.now result ≡ of_version_delete (version_delete part.now) }
     ensures inside { PartInside part.now result }
 {
-    match primary::read_delete(part) {
-        DeleteRead::Read(t, id) => PartRead::Read(t, Kind::VersionDelete(id)),
-        DeleteRead::Fault(f) => PartRead::Refused(Fault::Primary(f)),
-    }
+    let (t, id) = primary::read_delete(part)?;
+    Ok((t, Kind::VersionDelete(id)))
 }
 
-fn pack_list(part: &[u8]) -> PartRead
+fn pack_list(part: &[u8]) -> Result<(Texts, Kind), Fault>
     ensures result_value { part_of part.now result ≡ of_pack_list (pack_list part.now) }
     ensures inside { PartInside part.now result }
 {
-    match pack_list::read(part) {
-        pack_list::Reading::List(l) => {
-            let identifier = l.identifier;
-            PartRead::Read(identifier, Kind::PackList)
-        }
-        pack_list::Reading::Refused(f) => match f {
-            pack_list::Fault::Part(p) => PartRead::Refused(Fault::Primary(p)),
-            pack_list::Fault::Unfilled => PartRead::Refused(Fault::Unfilled),
-        },
-    }
+    let l = pack_list::read(part)?;
+    Ok((l.identifier, Kind::PackList))
 }
 
 // The primary part of a record with this tag, which is a known one.
-fn contents(tag: u16, part: &[u8]) -> PartRead
+fn contents(tag: u16, part: &[u8]) -> Result<(Texts, Kind), Fault>
     ensures result_value { part_of part.now result ≡ contents tag part.now }
     ensures inside { PartInside part.now result }
 {
@@ -226,29 +231,25 @@ fn is_known(tag: u16) -> bool
     (tag == BLOCK) | (tag == VERSION) | (tag == VERSION_DELETE) | (tag == PACK_LIST)
 }
 
-fn with_part(tag: u16, pack: &[u8], told: Told) -> Reading
+fn with_part(tag: u16, pack: &[u8], told: Told) -> Result<Record, Fault>
     requires { ToldInside pack.now told }
     ensures result_value { answer_of pack.now result ≡ with_told told (contents tag (primary_in pack.now told)) }
     ensures inside { RecordInside pack.now result }
 {
     let start = told.primary.start;
     let end = start + told.primary.len;
-    match contents(tag, &pack[start..end]) {
-        PartRead::Read(t, k) => {
-            let identifier = texts_from(start, t);
-            let kind = kind_from(start, k);
-            Reading::Record(Record {
-                told,
-                identifier,
-                kind,
-            })
-        }
-        PartRead::Refused(f) => Reading::Refused(f),
-    }
+    let (t, k) = contents(tag, &pack[start..end])?;
+    let identifier = texts_from(start, t);
+    let kind = kind_from(start, k);
+    Ok(Record {
+        told,
+        identifier,
+        kind,
+    })
 }
 
 // The tests come in the order of their numbers.
-fn by_told(tag: u16, pack: &[u8], told: Told) -> Reading
+fn by_told(tag: u16, pack: &[u8], told: Told) -> Result<Record, Fault>
     requires { ToldInside pack.now told }
     ensures result_value { answer_of pack.now result ≡ unless (lowest (told_rows tag (telling_of told)))
         (with_told told (contents tag (primary_in pack.now told))) }
@@ -256,68 +257,79 @@ fn by_told(tag: u16, pack: &[u8], told: Told) -> Reading
 {
     let primary = told.primary;
     if !is_known(tag) {
-        return Reading::Refused(Fault::UnknownTag);
+        return Err(Fault::UnknownTag);
     }
     if told.version != 0 {
-        return Reading::Refused(Fault::Version);
+        return Err(Fault::Version);
     }
     if primary.encrypted | (primary.compression != 0) {
-        return Reading::Refused(Fault::Encoded);
+        return Err(Fault::Encoded);
     }
     with_part(tag, pack, told)
 }
 
 // The record with this tag whose value stands at a place of the pack; of a place that is not inside,
 // the value is what is there.
-pub fn read(tag: u16, pack: &[u8], value: Place) -> Reading
+pub fn read(tag: u16, pack: &[u8], value: Place) -> Result<Record, Fault>
     ensures result_value { answer_of pack.now result ≡ answer_from value.start (read_record pack_limit tag (part_at pack.now value)) }
     ensures inside { RecordInside pack.now result }
 {
-    match value::read(slices::part(pack, value)) {
-        value::Reading::Told(t) => by_told(tag, pack, told_from(value.start, t)),
-        value::Reading::Refused(f) => Reading::Refused(Fault::Value(f)),
-    }
+    let t = value::read(slices::part(pack, value))?;
+    by_told(tag, pack, told_from(value.start, t))
 }
 
 // ---- the record at a place of a pack
 
+// A record, and where its value stands in the pack.
 #[derive(Clone, Copy)]
-pub enum AtPlace {
-    // The record, and where its value stands in the pack.
-    Record { record: Record, value: Place },
+pub struct Placed {
+    pub record: Record,
+    pub value: Place,
+}
+
+#[derive(Clone, Copy)]
+pub enum PlaceFault {
     // The place is not inside the pack: refusal 20.
     Outside,
-    // The pack is longer than the limit: refusal 1, at 0.
-    TooLong,
-    // Refusals 2 to 8, at the place.
-    Fault(tlv::Fault, usize),
+    // Refusal 1, at 0; 2 to 8, at the place.
+    Pack(pack::Fault),
     // Refusals 9 to 18, 21 and 22.
-    Refused(Fault),
+    Record(Fault),
+}
+
+impl From<pack::Fault> for PlaceFault {
+    ghost from_gives = { λ a b. b ≡ Pack a };
+
+    fn from(f: pack::Fault) -> PlaceFault {
+        PlaceFault::Pack(f)
+    }
+}
+
+impl From<Fault> for PlaceFault {
+    ghost from_gives = { λ a b. b ≡ RecordFault a };
+
+    fn from(f: Fault) -> PlaceFault {
+        PlaceFault::Record(f)
+    }
 }
 
 // What stands at a place of a pack, which need not be where a record of the pack starts.
-pub fn read_at(pack: &[u8], at: usize) -> AtPlace
+pub fn read_at(pack: &[u8], at: usize) -> Result<Placed, PlaceFault>
     ensures result_value { place_of pack.now result ≡ there_from (at + 32) (record_at pack_limit pack.now at) }
     ensures inside { PlaceInside pack.now at result }
 {
     if pack.len() <= at {
-        return AtPlace::Outside;
+        return Err(PlaceFault::Outside);
     }
     if RecordHeader::LIMIT < pack.len() {
-        return AtPlace::TooLong;
+        return Err(PlaceFault::Pack(pack::Fault::TooLong));
     }
-    match tlv::step_at(pack, at) {
-        Step::End => AtPlace::Outside,
-        Step::Fault(f) => AtPlace::Fault(f, at),
-        Step::Record(h) => {
-            let value = Place {
-                start: at + RecordHeader::LENGTH,
-                len: h.length as usize,
-            };
-            match read(h.tag, pack, value) {
-                Reading::Record(record) => AtPlace::Record { record, value },
-                Reading::Refused(f) => AtPlace::Refused(f),
-            }
-        }
-    }
+    let step = tlv::step_at(pack, at).map_err(|f| pack::Fault::Record(f, at))?;
+    let h = step.ok_or(PlaceFault::Outside)?;
+    let value = Place {
+        start: at + RecordHeader::LENGTH,
+        len: h.length as usize,
+    };
+    let record = read(h.tag, pack, value)?;
+    Ok(Placed { record, value })
 }

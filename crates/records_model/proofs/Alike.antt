@@ -1,6 +1,6 @@
 -- Values alike: equal up to the order of pairs in maps, at every depth, and in bytes that themselves hold an encoding.
 use Rattle.std.specs.Prelude.{ℕ, ◌+◌, ◌≤◌, Bool, true, false, cond, List, ◌≡◌, refl}
-use Rattle.std.proofs.Math.Option.{Option, some}
+use Rattle.std.specs.Prelude.{Option, Some}
 use Rattle.std.proofs.Common.{ap, ◌∙◌, arith, ltb-false}
 use Rattle.msgpack.specs.Lookup.{over}
 use Rattle.msgpack.specs.Views.{Both, both, neither, Each, no_more, and_each, SameUnder, both_found, both_missing, both_broken, SeenAlike}
@@ -60,12 +60,12 @@ alike_map (embedded x y z) = neither
 
 -- ---- the value of a key
 
-newer : {v w : Value} {o p : Option Value} (t : Bool) → Alike v w → Both Alike o p → Both Alike (cond t (some v) o) (cond t (some w) p)
+newer : {v w : Value} {o p : Option Value} (t : Bool) → Alike v w → Both Alike o p → Both Alike (cond t (Some v) o) (cond t (Some w) p)
 newer true x y = both x
 newer false x y = y
 
 apart : (s t : Bool) (v w : Value) {o p : Option Value} → cond {A = ℕ} s 1 0 + (cond t 1 0 + 0) ≤ 1 → Both Alike o p
-    → Both Alike (cond t (some w) (cond s (some v) o)) (cond s (some v) (cond t (some w) p))
+    → Both Alike (cond t (Some w) (cond s (Some v) o)) (cond s (Some v) (cond t (Some w) p))
 apart true true v w h x = absurd (omega arith)
 apart true false v w h x = both (same v)
 apart false true v w h x = both (same w)

@@ -1,6 +1,6 @@
 -- What is read of a header and of a primary part is the same in values alike: in both the same keys repeat, and where none does all is read alike.
 use Rattle.std.specs.Prelude.{ℕ, Bool, true, false, cond, ◌||◌, List, ◌≡◌, leb}
-use Rattle.std.proofs.Math.Option.{Option, none, some}
+use Rattle.std.specs.Prelude.{Option, None, Some}
 use Rattle.std.proofs.Math.Path.{refl, ap}
 use Rattle.std.proofs.Common.{sym, ◌∙◌}
 use Rattle.slices.specs.Logic.{neither_so}
@@ -31,7 +31,7 @@ module _ {v w : Value} (x : Alike v w) (limit : ℕ) where
   same_bytes_lem : repeats value_view header_keys v ≡ false → Both AlikeBytes (bytes_under primary_key v) (bytes_under primary_key w)
   same_bytes_lem once = by (once_alike value_view value_view Alike seen_alike header_keys x once).0
     where
-      by : {o p : Under Value} → SameUnder Alike o p → Both AlikeBytes (at_place none as_binary o) (at_place none as_binary p)
+      by : {o p : Under Value} → SameUnder Alike o p → Both AlikeBytes (at_place None as_binary o) (at_place None as_binary p)
       by (both_found y) = alike_binary y
       by both_missing = neither
       by both_broken = neither
@@ -43,16 +43,16 @@ module _ {v w : Value} (x : Alike v w) (limit : ℕ) where
       rw (once_telling_alike value_view value_view Alike seen_alike limit v w x once) (by (same_bytes_lem own) (telling value_view limit w))
     where
       by : {o p : Option (List ℕ)} → Both AlikeBytes o p → (t : Option Telling) → Both SameHeader (header_by o t) (header_by p t)
-      by (both y) (some t) = both (record { primary = y; told = refl })
-      by (both y) none = neither
+      by (both y) (Some t) = both (record { primary = y; told = refl })
+      by (both y) None = neither
       by neither t = neither
 
   pub same_header : AnswersAlike SameHeader (tested (header_repeats value_view v) (header limit v)) (tested (header_repeats value_view w) (header limit w))
   same_header = rw (← header_repeats_alike value_view value_view Alike seen_alike v w x) (by (header_repeats value_view v) refl)
     where
       refuses : (o : Option (Header (List ℕ))) → Refuses 11 (tested true o)
-      refuses (some h) = by_22
-      refuses none = by_type
+      refuses (Some h) = by_22
+      refuses None = by_type
 
       once : {o p : Option (Header (List ℕ))} → Both SameHeader o p → AnswersAlike SameHeader (tested false o) (tested false p)
       once (both y) = both_read y
@@ -80,23 +80,23 @@ either_way f g true x y same = both_refuse in_part x y
 either_way f g false x y same = rw (same refl) (same_answers (g false))
 
 block_refuses : (s : Option Shape) → Refuses 17 (block_by s true)
-block_refuses (some s) = by_22
-block_refuses none = by_type
+block_refuses (Some s) = by_22
+block_refuses None = by_type
 
 version_refuses : (t : Option Identity) (d : Option Bool) → Refuses 17 (version_by t d true)
-version_refuses (some t) (some d) = by_22
-version_refuses (some t) none = by_type
-version_refuses none d = by_type
+version_refuses (Some t) (Some d) = by_22
+version_refuses (Some t) None = by_type
+version_refuses None d = by_type
 
 delete_refuses : (t : Option Identity) (d : Option (List ℕ)) → Refuses 17 (version_delete_by t d true)
-delete_refuses (some t) (some d) = by_22
-delete_refuses (some t) none = by_type
-delete_refuses none d = by_type
+delete_refuses (Some t) (Some d) = by_22
+delete_refuses (Some t) None = by_type
+delete_refuses None d = by_type
 
 list_refuses : (s : Option Shape) (es : Option (List Entry)) → Refuses 17 (pack_list_by s es true)
-list_refuses (some s) (some es) = by_22
-list_refuses (some s) none = by_type
-list_refuses none es = by_type
+list_refuses (Some s) (Some es) = by_22
+list_refuses (Some s) None = by_type
+list_refuses None es = by_type
 
 module _ {p q : Value} (x : Alike p q) where
   pub same_block_lem : AnswersAlike (λ i j. i ≡ j) (block p) (block q)

@@ -1,6 +1,6 @@
 -- What a value and a record hold is the same for headers alike.
 use Rattle.std.specs.Prelude.{ℕ, Bool, true, false, cond, List, ◌≡◌, refl, leb, eqb, length}
-use Rattle.std.proofs.Math.Option.{Option, none, some}
+use Rattle.std.specs.Prelude.{Option, None, Some}
 use Rattle.std.proofs.Common.{ap}
 use Rattle.refusals.specs.Sheet.{lowest}
 use Rattle.refusals.specs.Answers.{Answer, refused, granted, unless}
@@ -80,8 +80,8 @@ same_record tag (both_read {a = h} {b = g} s) =
     with_contents (both_read e) = both_read (record { held = s; contents = e })
 
     by : (o : Option ℕ) → AnswersAlike SameRecord (unless o (with_held h (contents tag h.primary))) (unless o (with_held g (contents tag g.primary)))
-    by (some n) = same_refusal n
-    by none = with_contents (same_contents tag s.primary)
+    by (Some n) = same_refusal n
+    by None = with_contents (same_contents tag s.primary)
 
 pub same_records : {v w : Value} → Alike v w → (limit tag : ℕ) (rest : List ℕ)
     → AnswersAlike SameRecord (record_holds limit tag v rest) (record_holds limit tag w rest)

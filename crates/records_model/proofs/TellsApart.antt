@@ -1,7 +1,7 @@
 -- The relations that "two sites read alike" is said with tell things apart: what differs in one respect alone is not related.
 use Rattle.std.specs.Prelude.{ℕ, ◌+◌, Bool, true, false, cond, List, [], ◌∷◌, ◌++◌, ◌≡◌, refl, ltb}
 use Rattle.std.proofs.Common.{sym, subst, subst₂, ◌∙◌}
-use Rattle.std.proofs.Math.Option.{some, none}
+use Rattle.std.specs.Prelude.{Some, None}
 use Rattle.slices.specs.Bytes.{same_bytes, same_bytes_refl}
 use Rattle.slices.specs.Logic.{absurd_numbers}
 use Rattle.msgpack.specs.Lookup.{found}
@@ -18,16 +18,16 @@ use Rattle.records_model.specs.TellsApart.{encodings_differ}
 -- ---- values
 
 pub texts_differ : (s t : List ℕ) → (s ≡ t → ⊥) → Alike (Text s) (Text t) → ⊥
-texts_differ s t d x = let e : some s ≡ some t = seen_alike.text x in d (cc)
+texts_differ s t d x = let e : Some s ≡ Some t = seen_alike.text x in d (cc)
 
 pub booleans_differ : Alike (Boolean false) (Boolean true) → ⊥
-booleans_differ x = let e : some false ≡ some true = seen_alike.boolean x in absurd_numbers (cc)
+booleans_differ x = let e : Some false ≡ Some true = seen_alike.boolean x in absurd_numbers (cc)
 
 -- the order of an array counts
 pub items_differ : (v w : Value) → (Alike v w → ⊥) → Alike (Array (value v (value w no_values_lem))) (Array (value w (value v no_values_lem))) → ⊥
 items_differ v w d x = by (seen_alike.items x)
   where
-    by : Both (Each Alike) (some (v ∷ w ∷ [])) (some (w ∷ v ∷ [])) → ⊥
+    by : Both (Each Alike) (Some (v ∷ w ∷ [])) (Some (w ∷ v ∷ [])) → ⊥
     by (both (and_each y ys)) = d y
 
 -- what stands under a key
@@ -39,14 +39,14 @@ values_of_a_key_differ key v w d x = by (same_bytes key key) (same_bytes_refl ke
     at (both_found y) = d y
 
     by : (t : Bool) → t ≡ true
-        → (ltb 1 (cond t 1 0 + 0) ≡ false → SameUnder Alike (found_by (cond t (some v) none)) (found_by (cond t (some w) none))) → ⊥
+        → (ltb 1 (cond t 1 0 + 0) ≡ false → SameUnder Alike (found_by (cond t (Some v) None)) (found_by (cond t (Some w) None))) → ⊥
     by true e under = at (under refl)
     by false e under = absurd_numbers (cc)
 
 pub embedded_values_differ : {v w : Value} {e f : List ℕ} → Encodes v e → Encodes w f → (Alike v w → ⊥) → Alike (Binary e) (Binary f) → ⊥
 embedded_values_differ {e = e} {f = f} x y d z = by (alike_binary z)
   where
-    by : Both AlikeBytes (some e) (some f) → ⊥
+    by : Both AlikeBytes (Some e) (Some f) → ⊥
     by (both b) = encodings_differ x y d b
 
 -- of records: another header, or another secondary part

@@ -1,6 +1,6 @@
 -- Values alike: equal up to the order of pairs in maps, at every depth, and in bytes that themselves hold an encoding.
 use Rattle.std.specs.Prelude.{ℕ, max, List, ◌++◌, ◌≡◌, refl}
-use Rattle.std.proofs.Math.Option.{Option, some, none as nothing}
+use Rattle.std.specs.Prelude.{Option, Some, None as nothing}
 use Rattle.std.proofs.Common.{ap, ◌∙◌, arith}
 use Rattle.msgpack.specs.Views.{Both, both, neither}
 use Rattle.msgpack_model.specs.Values.{Value, Binary, Array, Map, Values, no_values_lem, value, Pairs, no_pairs, pair, depth, values_depth, pairs_depth, as_binary}
@@ -55,7 +55,7 @@ same_depth x = elim x as (λ v w y. depth v ≡ depth w) (λ vs ws y. values_dep
 -- ---- what is alike
 
 pub both_same : {A : Type 0} {R : A → A → Type 0} → ((a : A) → R a a) → (o : Option A) → Both R o o
-both_same r (some a) = both (r a)
+both_same r (Some a) = both (r a)
 both_same r nothing = neither
 
 pub both_and : {A : Type 0} {R : A → A → Type 0} → ((a b c : A) → R a b → R b c → R a c) → {o p q : Option A} → Both R o p → Both R p q → Both R o q

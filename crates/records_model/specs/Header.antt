@@ -1,6 +1,6 @@
 -- What a value holds, by its header as a value and what follows it: no bytes are read and no places told. The rules for headers are those of crate value.
 use Rattle.std.specs.Prelude.{ℕ, cond, List, leb, eqb, length}
-use Rattle.std.proofs.Math.Option.{Option, none}
+use Rattle.std.specs.Prelude.{Option, None}
 use Rattle.refusals.specs.Answers.{Answer, refused, granted}
 use Rattle.msgpack.specs.Items.{depth_allowed}
 use Rattle.msgpack.specs.Lookup.{at_place}
@@ -10,7 +10,7 @@ use Rattle.value.specs.Header.{primary_key, Telling, telling, header_repeats, He
 
 -- the bytes under a key
 abbrev pub bytes_under : List ℕ → Value → Option (List ℕ)
-bytes_under key m = at_place none as_binary (value_view.under key m)
+bytes_under key m = at_place None as_binary (value_view.under key m)
 
 unfoldable pub header : ℕ → Value → Option (Header (List ℕ))
 header limit m = header_by (bytes_under primary_key m) (telling value_view limit m)

@@ -1,7 +1,7 @@
 -- Every encoding of a header is read as the header is, and a value holds what its header and the bytes after it say.
 use Rattle.std.specs.Prelude.{ℕ, ◌+◌, ◌≤◌, Bool, List, ◌++◌, ◌≡◌, eqb, length, take, drop}
 use Rattle.std.proofs.Math.Bool.{true, false, cond}
-use Rattle.std.proofs.Math.Option.{Option, none, some}
+use Rattle.std.specs.Prelude.{Option, None, Some}
 use Rattle.std.proofs.Math.Path.{refl, ap}
 use Rattle.std.proofs.Common.{sym, ◌∙◌, arith, leb-true, leb-false, eq-eqb, ne_eqb, eqb-true, length-append, drop-drop}
 use Rattle.std.proofs.lemmas.Bool.{eqb-false}
@@ -57,8 +57,8 @@ bytes_at_lem : (s : List ℕ) (p : ℕ) → over (content s) (shifted p (read_bi
 bytes_at_lem s p = by (read_binary (drop p s))
   where
     by : (r : Option msgpack.Part) → over (content s) (shifted p r) ≡ content_of_part (drop p s) r
-    by (some b) = ap (λ l. some (take b.size l)) (sym (drop-drop b.start p s))
-    by none = refl
+    by (Some b) = ap (λ l. Some (take b.size l)) (sym (drop-drop b.start p s))
+    by None = refl
 
 module _ {s : List ℕ} {v : Value} (x : Shows s v) where
   bytes_under_lem : over (content s) (bytes-fields.bytes_under primary_key s) ≡ bytes_under primary_key v
@@ -66,7 +66,7 @@ module _ {s : List ℕ} {v : Value} (x : Shows s v) where
   bytes_under_lem = by (last_value primary_key s) (keys_alike header_keys x).0
     where
       by : (r : Under ℕ) {o : Under Value} → SameUnder Shows (front_of s r) o
-          → over (content s) (at_place none (λ p. shifted p (read_binary (drop p s))) r) ≡ at_place none as_binary o
+          → over (content s) (at_place None (λ p. shifted p (read_binary (drop p s))) r) ≡ at_place None as_binary o
       by (found p) (both_found y) = bytes_at_lem s p ∙ ap (λ t. content_of_part t (read_binary t)) y.is ∙ binary_reads y.encodes y.rest
       by missing both_missing = refl
       by broken both_broken = refl
@@ -78,9 +78,9 @@ module _ {s : List ℕ} {v : Value} (x : Shows s v) where
       (by (bytes-fields.bytes_under primary_key s) (telling byte_view limit s))
     where
       by : (b : Option msgpack.Part) (t : Option Telling) → over (header_in s) (over (told_in s) (header_by b t)) ≡ header_by (over (content s) b) t
-      by (some b) (some t) = refl
-      by (some b) none = refl
-      by none t = refl
+      by (Some b) (Some t) = refl
+      by (Some b) None = refl
+      by None t = refl
 
 -- ---- the value
 
@@ -118,9 +118,9 @@ module _ (limit : ℕ) {v : Value} {e : List ℕ} (x : Encodes v e) (rest : List
     where
       by : (r : Bool) → header_repeats byte_view e ≡ r → (h : Option Told) → bytes.header limit e ≡ h
           → answer_in (e ++ rest) (reading limit (e ++ rest)) ≡ filled_by rest (tested r (over (header_in e) h))
-      by r o none q = rw (by_header d, q)
-      by true o (some t) q = rw (by_header d, q, o)
-      by false o (some t) q = test (eqb t.secondary.len (length rest)) refl
+      by r o None q = rw (by_header d, q)
+      by true o (Some t) q = rw (by_header d, q, o)
+      by false o (Some t) q = test (eqb t.secondary.len (length rest)) refl
         where
           fills : eqb (length e + t.secondary.len) (length (e ++ rest)) ≡ eqb t.secondary.len (length rest)
           fills = rw length-append (beyond (length e) t.secondary.len (length rest))

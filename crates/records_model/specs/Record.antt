@@ -1,6 +1,6 @@
 -- A record by what its header and primary part tell as values: refusals 10 to 18, 21 and 22 over the data model.
 use Rattle.std.specs.Prelude.{ℕ, cond, List, ◌++◌, ◌≡◌, refl, eqb}
-use Rattle.std.proofs.Math.Option.{Option, none, some}
+use Rattle.std.specs.Prelude.{Option, None, Some}
 use Rattle.std.proofs.Common.{ap}
 use Rattle.slices.specs.Logic.{absurd_numbers}
 use Rattle.refusals.specs.Sheet.{lowest}
@@ -57,9 +57,9 @@ unfolding read_record record_holds told_rows
 record_reads limit tag {e = e} x rest = rw (← value_reads limit x rest) (by (reading limit (e ++ rest)))
   where
     with_told_lem : (t : Told) (r : Option ℕ) (c : Answer Contents) → record_in (e ++ rest) (unless r (with_told t c)) ≡ unless r (with_held (held_in (e ++ rest) t) c)
-    with_told_lem t (some n) c = refl
-    with_told_lem t none (granted c) = refl
-    with_told_lem t none (refused n) = refl
+    with_told_lem t (Some n) c = refl
+    with_told_lem t None (granted c) = refl
+    with_told_lem t None (refused n) = refl
 
     by : (a : Answer Told) → record_in (e ++ rest) (by_value tag (e ++ rest) a) ≡ by_held tag (answer_in (e ++ rest) a)
     by (granted t) = with_told_lem t (lowest (told_rows tag (telling_of t))) (contents tag (primary_in (e ++ rest) t))

@@ -1,3 +1,4 @@
 pub mod Limit
 pub mod Sheet
 pub mod Answers
+pub mod Unwritten

@@ -7,14 +7,14 @@ use Rattle.std.proofs.Math.ListN.{length, take, drop, length-append}
 use Rattle.std.proofs.Math.Seq.{take_at, take-append_seam, drop-append-add, drop-drop}
 
 -- s with t in place of what stood from `at` on
-unfoldable pub overwritten : List ℕ → ℕ → List ℕ → List ℕ
+unfoldable pub overwritten : {A : Type 0} → List A → ℕ → List A → List A
 overwritten s at t = take at s ++ t ++ drop (at + length t) s
 
 -- what a write of t leaves: s as it was, where t does not lie within
-unfoldable pub written_bytes : List ℕ → ℕ → List ℕ → List ℕ
+unfoldable pub written_bytes : {A : Type 0} → List A → ℕ → List A → List A
 written_bytes s at t = cond (leb (at + length t) (length s)) (overwritten s at t) s
 
-module _ (s : List ℕ) (at : ℕ) (t : List ℕ) (fits : at + length t ≤ length s) where
+module _ {A : Type 0} (s : List A) (at : ℕ) (t : List A) (fits : at + length t ≤ length s) where
   front_length : length (take at s) ≡ at
   front_length = length-take-le at s (omega arith)
 
@@ -48,11 +48,11 @@ module _ (s : List ℕ) (at : ℕ) (t : List ℕ) (fits : at + length t ≤ leng
       ∙ drop-drop (n - (at + length t)) (at + length t) s
       ∙ ap (λ (k : ℕ). drop k s) m
 
-pub none_overwritten : (s : List ℕ) (at : ℕ) → overwritten s at [] ≡ s
+pub none_overwritten : {A : Type 0} (s : List A) (at : ℕ) → overwritten s at [] ≡ s
 unfolding overwritten
 none_overwritten s at = rw (append-nil, add-zero) (take-append-drop at s)
 
-overwrite_after : (x s : List ℕ) (at : ℕ) (t u : List ℕ) → take (at + length t) x ≡ take at s ++ t
+overwrite_after : {A : Type 0} (x s : List A) (at : ℕ) (t u : List A) → take (at + length t) x ≡ take at s ++ t
     → drop (at + length t + length u) x ≡ drop (at + length t + length u) s
     → overwritten x (at + length t) u ≡ overwritten s at (t ++ u)
 unfolding overwritten
@@ -61,7 +61,7 @@ overwrite_after x s at t u p q =
     rw (p, q, n) (simp append_assoc)
 
 -- one text after the other
-pub overwritten_more : (s : List ℕ) (at : ℕ) (t u : List ℕ) → at + length t + length u ≤ length s
+pub overwritten_more : {A : Type 0} (s : List A) (at : ℕ) (t u : List A) → at + length t + length u ≤ length s
     → overwritten (overwritten s at t) (at + length t) u ≡ overwritten s at (t ++ u)
 overwritten_more s at t u fits =
     overwrite_after (overwritten s at t) s at t u (take_overwritten s at t (omega arith))

@@ -53,49 +53,25 @@ pub fn part(s: &[u8], p: Place) -> &[u8]
 pub fn same_bytes(a: &[u8], b: &[u8]) -> bool
     ensures { result ≡ same_bytes a.now b.now }
 {
-    if a.len() != b.len() {
-        return false;
-    }
-    let mut i: usize = 0;
-    while i < a.len() {
-        if a[i] != b[i] {
-            return false;
-        }
-        i += 1;
-    }
-    true
+    a == b
 }
 
 // ---- written
 
 // Whether so many elements, from at on, lie within len. Nothing is added before it is compared.
-fn lies(len: usize, at: usize, count: usize) -> bool
+pub fn lies(len: usize, at: usize, count: usize) -> bool
     ensures { result ≡ leb (at + count) len }
 {
-    if len < count {
-        return false;
-    }
-    at <= len - count
+    count <= len && at <= len - count
 }
 
-fn copy(out: &mut [u8], at: usize, text: &[u8])
-    requires { at + length text.now ≤ length out.old }
-    ensures { out.new ≡ overwritten out.old at text.now }
-{
-    let mut i = 0;
-    while i < text.len() {
-        out[at + i] = text[i];
-        i += 1;
-    }
-}
-
-// Answers whether the bytes were written; where they were not, nothing was.
-pub fn write_bytes(out: &mut [u8], at: usize, text: &[u8]) -> bool
+// Answers whether the elements were written; where they were not, nothing was.
+pub fn write_bytes<T: Copy>(out: &mut [T], at: usize, text: &[T]) -> bool
     ensures value { result ≡ leb (at + length text.now) (length out.old) }
     ensures out_after { out.new ≡ written_bytes out.old at text.now }
 {
     if lies(out.len(), at, text.len()) {
-        copy(out, at, text);
+        out[at..at + text.len()].copy_from_slice(text);
         true
     } else {
         false

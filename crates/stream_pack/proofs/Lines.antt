@@ -2,7 +2,7 @@
 use Prim.Native.Nat.{ℕ, ◌+◌, ◌*◌, ◌≤◌}
 use mathlib.Core.Bool.{true}
 use mathlib.Core.List.{List, [], ◌∷◌, ◌++◌, append-nil}
-use mathlib.Core.Option.{none, some}
+use Rattle.std.specs.Prelude.{None, Some}
 use mathlib.Core.Path.{◌≡◌, refl, sym, ap, subst, ◌∙◌}
 use native.Mathlib.Omega.{arith}
 use lib.ListN.{length, drop, length-append, length-drop}
@@ -29,15 +29,15 @@ module _ (q : Progress) (t : List ℕ) (fit : fits pipe_limit q ≡ true) where
   after_told : (e : Entry) → (take pipe_limit q t).notice ≡ complete e
       → run pipe_limit q t ≡ tell e (run pipe_limit (take pipe_limit q t).after (drop (take pipe_limit q t).taken t))
   after_told e is =
-      let told : record_in (advance pipe_limit q t).notice ≡ some e = ap (λ (c : Call). record_in c.notice) same ∙ ap record_in is in
+      let told : record_in (advance pipe_limit q t).notice ≡ Some e = ap (λ (c : Call). record_in c.notice) same ∙ ap record_in is in
       ap (run pipe_limit q) (sym (append-nil t))
       ∙ run_told pipe_limit q t [] e told
       ∙ ap (λ (c : Call). tell e (run pipe_limit c.after (drop c.taken t ++ []))) same
       ∙ ap (λ (s : List ℕ). tell e (run pipe_limit (take pipe_limit q t).after s)) (append-nil (drop (take pipe_limit q t).taken t))
 
-  after_passed : record_in (take pipe_limit q t).notice ≡ none → run pipe_limit q t ≡ silent (take pipe_limit q t).after
+  after_passed : record_in (take pipe_limit q t).notice ≡ None → run pipe_limit q t ≡ silent (take pipe_limit q t).after
   after_passed is =
-      let passed : record_in (advance pipe_limit q t).notice ≡ none = ap (λ (c : Call). record_in c.notice) same ∙ is in
+      let passed : record_in (advance pipe_limit q t).notice ≡ None = ap (λ (c : Call). record_in c.notice) same ∙ is in
       ap (run pipe_limit q) (sym (append-nil t))
       ∙ run_passed pipe_limit q t [] passed
       ∙ ap (λ (c : Call). run pipe_limit c.after []) same
@@ -111,7 +111,7 @@ module _ {out₀ : List ℕ} {p : Progress} {s out : List ℕ} {q : Progress} {a
         }
 
   -- no other one is
-  pub last_line : record_in next.notice ≡ none → ((run pipe_limit p s).told ≡ v.es) × ((run pipe_limit p s).after ≡ next.after)
+  pub last_line : record_in next.notice ≡ None → ((run pipe_limit p s).told ≡ v.es) × ((run pipe_limit p s).after ≡ next.after)
   last_line is =
       let r = v.whole ∙ ap (behind v.es) (after_passed q (drop at s) v.fit is) in
       (ap (λ (x : Run). x.told) r ∙ append-nil v.es, ap (λ (x : Run). x.after) r)
@@ -119,7 +119,7 @@ module _ {out₀ : List ℕ} {p : Progress} {s out : List ℕ} {q : Progress} {a
 -- ---- `t` is what the code did in that call
 
 -- its event is no record
-no_record : (e : Event) → ((x : Entry) → e ≡ Complete x → ⊥) → record_in (notice_of e) ≡ none
+no_record : (e : Event) → ((x : Entry) → e ≡ Complete x → ⊥) → record_in (notice_of e) ≡ None
 no_record Wanted other = refl
 no_record (Complete x) other = absurd (other x refl)
 no_record (Refusal n place) other = refl

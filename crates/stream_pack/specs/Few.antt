@@ -2,7 +2,7 @@
 use Prim.Native.Nat.{ℕ, suc, ◌+◌, ◌*◌, ◌≤◌}
 use Rattle.std.specs.Prelude.{Bool, true, false, cond, ◌≡◌, refl, eqb, leb, ltb}
 use mathlib.Core.List.{List, [], ◌∷◌, ◌++◌}
-use Rattle.std.proofs.Math.Option.{Option, none, some}
+use Rattle.std.specs.Prelude.{Option, None, Some}
 use native.Mathlib.Omega.{arith}
 use Rattle.std.proofs.Common.{ltb-true, ltb-false, length-append}
 use Rattle.std.proofs.Math.ListN.{length}
@@ -42,8 +42,8 @@ headed_counts g t = go (ltb (length t) 32) refl (lowest (header_rows t))
   where
     go : (u : Bool) → ltb (length t) 32 ≡ u → (o : Option ℕ) → Counts (length t) (cond u (onward (in_phase g (in_header t))) (opened g t o))
     go true e o = omega arith
-    go false e none = valued_counts (length t) g t fresh (ltb-false (length t) 32 e)
-    go false e (some n) = tt
+    go false e None = valued_counts (length t) g t fresh (ltb-false (length t) 32 e)
+    go false e (Some n) = tt
 
 byte_counts : (limit : ℕ) (g : Going) (b : ℕ) → Counts (1 + spent g.phase) (byte limit g b)
 unfolding byte

@@ -11,7 +11,7 @@ ghost use Rattle.pipe.specs.States.{progress_of};
 ghost use Rattle.pipe.specs.Sessions.{run};
 ghost use Rattle.stream_pack.specs.Text.{verdict_line};
 
-use console::{Read, put_refusal};
+use console::put_refusal;
 use entry_lines::{put_count, put_line};
 use pipe::{Event, Phase, State};
 
@@ -30,15 +30,13 @@ fn put_part(out: &mut [u8], state: State, part: &[u8]) -> Listed
     ensures state_value_2 { (fits pipe_limit (progress_of result.state) ≡ true) × (result.end ≤ 131072) }
 {
     let mut next = state;
-    let mut at: usize = 0;
-    let mut end: usize = 0;
+    let mut at = 0;
+    let mut end = 0;
     loop {
         let call = pipe::take(next, &part[at..]);
-        let after = call.state;
-        let event = call.event;
-        next = after;
-        let Event::Complete(e) = event else {
-            return Listed { state: after, end };
+        next = call.state;
+        let Event::Complete(e) = call.event else {
+            return Listed { state: next, end };
         };
         end = put_line(out, end, e);
         at += call.taken;
@@ -50,9 +48,7 @@ fn put_verdict(out: &mut [u8], state: State) -> usize
     requires { (fits pipe_limit (progress_of state) ≡ true) × (64 ≤ length out.old) }
     ensures { Put out.old 0 (verdict_line (close (progress_of state))) out.new result × (result ≤ 64) }
 {
-    let last = pipe::end(state);
-    let event = last.event;
-    match event {
+    match pipe::end(state).event {
         Event::Over(records) => put_count(out, 0, records),
         Event::Refusal(n, place) => put_refusal(out, n, place),
         Event::Wanted => 0,
@@ -69,8 +65,7 @@ fn show_part(rt: &impl Print, state: State, part: &[u8]) -> State
 {
     let mut out = [0u8; 131072];
     let listed = put_part(&mut out, state, part);
-    let n = listed.end;
-    let _ = rt.write_all(&out[..n]);
+    let _ = rt.write_all(&out[..listed.end]);
     listed.state
 }
 
@@ -86,25 +81,14 @@ fn show_failure(rt: &impl Eprint) {
     let _ = eprintln!(rt; "stream_pack: standard input cannot be read");
 }
 
-fn is_refused(state: State) -> bool {
-    let phase = state.phase;
-    match phase {
-        Phase::Refused(_, _) => true,
-        Phase::Header => false,
-        Phase::Value => false,
-        Phase::Ended => false,
-    }
-}
-
 // Each turn takes a byte at least, and the byte past the limit is refused, so that the turns do not
 // run out.
 fn stream(rt: &(impl Input + Print + Eprint), buffer: &mut [u8])
     requires { length buffer.old ≤ 65536 }
 {
     let mut state = pipe::fresh();
-    let mut turns: usize = 0;
-    while turns <= pipe::LIMIT {
-        let Read::Bytes(n) = console::read_part(rt, buffer) else {
+    for _ in 0..pipe::LIMIT + 1 {
+        let Ok(n) = console::read_part(rt, buffer) else {
             show_failure(rt);
             return;
         };
@@ -113,11 +97,10 @@ fn stream(rt: &(impl Input + Print + Eprint), buffer: &mut [u8])
             return;
         }
         state = show_part(rt, state, &buffer[..n]);
-        if is_refused(state) {
+        if matches!(state.phase, Phase::Refused(_, _)) {
             show_verdict(rt, state);
             return;
         }
-        turns += 1;
     }
 }
 

@@ -1,15 +1,14 @@
 -- What stands at a place of a pack: the end, a record, or the lowest number of document 01's refusal sheet, from 2 to 8, that applies there.
 use Rattle.std.specs.Prelude.{ℕ, ◌-◌, ◌%◌, ◌≤◌, ◌<◌, Bool, true, false, not, cond, List, [], ◌∷◌, ◌++◌, ◌≡◌, refl, eqb, ltb, length, take, drop}
-use Rattle.std.proofs.Math.Option.{Option, none, some, Option-elim}
+use Rattle.std.specs.Prelude.{Option, None, Some, Result, Ok, Err}
 use Rattle.std.proofs.Common.{sym, ◌∙◌, arith, ltb-false, eqb-true, ne_eqb}
+use Rattle.refusals.specs.Answers.{or_else}
 use Rattle.refusals.specs.Sheet.{Row, lowest}
 use Rattle.xxh64.specs.Xxh64.{xxh64}
 use Rattle.tlv.specs.Layout.{magic, field}
 use Rattle.tlv.specs.declared.RecordHeader.{RecordHeader}
 use Rattle.tlv.specs.declared.Fault.{Fault}
 use Rattle.tlv.specs.declared.Fault.TheVariants.{HeaderCut, Magic, Version, HashType, HeaderHash, ValueCut, ValueHash}
-use Rattle.tlv.specs.declared.HeaderRead.{HeaderRead}
-use Rattle.tlv.specs.declared.Step.{Step}
 
 -- ---- the refusal sheet: a number, and whether it applies to what stands at the front of s
 
@@ -50,8 +49,8 @@ pub data Found : Type 0 where
   fault : ℕ → Found
 
 abbrev pub found_unless : Option ℕ → RecordHeader → Found
-found_unless none h = found h
-found_unless (some n) h = fault n
+found_unless None h = found h
+found_unless (Some n) h = fault n
 
 -- a header by itself
 unfoldable pub header : List ℕ → Found
@@ -72,34 +71,34 @@ number_of HeaderHash = 6
 number_of ValueCut = 7
 number_of ValueHash = 8
 
-abbrev pub found_header : HeaderRead → Found
-found_header (HeaderRead.Header h) = found h
-found_header (HeaderRead.Fault f) = fault (number_of f)
+abbrev pub found_header : Result RecordHeader Fault → Found
+found_header (Ok h) = found h
+found_header (Err f) = fault (number_of f)
 
-abbrev pub found_step : Step → Found
-found_step Step.End = end
-found_step (Step.Record h) = found h
-found_step (Step.Fault f) = fault (number_of f)
+abbrev pub found_step : Result (Option RecordHeader) Fault → Found
+found_step (Ok None) = end
+found_step (Ok (Some h)) = found h
+found_step (Err f) = fault (number_of f)
 
 -- ---- the step, from what the header is found to be
 
-lowest_append : (rows more : List Row) → lowest (rows ++ more) ≡ Option-elim (lowest rows) (lowest more) some
-unfolding lowest Option-elim
+lowest_append : (rows more : List Row) → lowest (rows ++ more) ≡ or_else (lowest rows) (lowest more)
+unfolding lowest
 lowest_append [] more = refl
 lowest_append (row ∷ rows) more = go row.applies (lowest_append rows more)
   where
-    go : (t : Bool) → lowest (rows ++ more) ≡ Option-elim (lowest rows) (lowest more) some
-        → cond t (some row.number) (lowest (rows ++ more)) ≡ Option-elim (cond t (some row.number) (lowest rows)) (lowest more) some
+    go : (t : Bool) → lowest (rows ++ more) ≡ or_else (lowest rows) (lowest more)
+        → cond t (Some row.number) (lowest (rows ++ more)) ≡ or_else (cond t (Some row.number) (lowest rows)) (lowest more)
     go true e = refl
     go false e = e
 
-pub found_unless_lem : (o : Option ℕ) (g h : RecordHeader) → found_unless o g ≡ found h → (o ≡ none) × (g ≡ h)
-found_unless_lem none g h e = (refl, cc)
-found_unless_lem (some n) g h e = absurd (let z : ◌≡◌ {A = ℕ} 0 1 = cc in omega arith)
+pub found_unless_lem : (o : Option ℕ) (g h : RecordHeader) → found_unless o g ≡ found h → (o ≡ None) × (g ≡ h)
+found_unless_lem None g h e = (refl, cc)
+found_unless_lem (Some n) g h e = absurd (let z : ◌≡◌ {A = ℕ} 0 1 = cc in omega arith)
 
-pub fault_unless : (o : Option ℕ) (g : RecordHeader) (n : ℕ) → found_unless o g ≡ fault n → o ≡ some n
-fault_unless none g n e = absurd (let z : ◌≡◌ {A = ℕ} 0 1 = cc in omega arith)
-fault_unless (some m) g n e = cc
+pub fault_unless : (o : Option ℕ) (g : RecordHeader) (n : ℕ) → found_unless o g ≡ fault n → o ≡ Some n
+fault_unless None g n e = absurd (let z : ◌≡◌ {A = ℕ} 0 1 = cc in omega arith)
+fault_unless (Some m) g n e = cc
 
 pub step_none : (s : List ℕ) → length s ≡ 0 → step s ≡ end
 unfolding step
@@ -110,24 +109,24 @@ unfolding step
 step_end s e = go (eqb (length s) 0) refl e
   where
     never : (o : Option ℕ) → found_unless o (header_of s) ≡ end → ⊥
-    never none e = let z : ◌≡◌ {A = ℕ} 0 1 = cc in omega arith
-    never (some n) e = let z : ◌≡◌ {A = ℕ} 0 1 = cc in omega arith
+    never None e = let z : ◌≡◌ {A = ℕ} 0 1 = cc in omega arith
+    never (Some n) e = let z : ◌≡◌ {A = ℕ} 0 1 = cc in omega arith
 
     go : (t : Bool) → eqb (length s) 0 ≡ t → cond t end (found_unless (lowest (header_rows s ++ value_rows s)) (header_of s)) ≡ end → length s ≡ 0
     go true p e = eqb-true (length s) 0 p
     go false p e = absurd (never (lowest (header_rows s ++ value_rows s)) e)
 
 module _ (s : List ℕ) (some_bytes : 0 < length s) where
-  step_some : step s ≡ found_unless (Option-elim (lowest (header_rows s)) (lowest (value_rows s)) some) (header_of s)
+  step_some : step s ≡ found_unless (or_else (lowest (header_rows s)) (lowest (value_rows s))) (header_of s)
   unfolding step
   step_some = rw (ne_eqb (length s) 0 (omega arith), lowest_append (header_rows s) (value_rows s))
 
   pub step_of_fault : (n : ℕ) → header s ≡ fault n → step s ≡ fault n
-  unfolding header Option-elim
+  unfolding header
   step_of_fault n e = rw (step_some, fault_unless (lowest (header_rows s)) (header_of s) n e)
 
   pub step_of_header : (h : RecordHeader) → header s ≡ found h → step s ≡ found_unless (lowest (value_rows s)) h
-  unfolding header Option-elim
+  unfolding header
   step_of_header h e =
       let f = found_unless_lem (lowest (header_rows s)) (header_of s) h e in
       rw (step_some, f.0, f.1)

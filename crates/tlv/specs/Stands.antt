@@ -2,7 +2,7 @@
 -- hold, and they hold exactly where the list begins with a record's layout.
 use Rattle.std.specs.Prelude.{ℕ, ◌+◌, ◌-◌, ◌%◌, ◌≤◌, ◌<◌, ◌^◌, Bool, true, false, not, cond, ◌≡◌, refl, eqb, drop}
 use mathlib.Core.List.{List, [], ◌∷◌, ◌++◌, append_assoc, append-nil}
-use Rattle.std.proofs.Math.Option.{none}
+use Rattle.std.specs.Prelude.{None}
 use Rattle.std.proofs.Math.Path.{sym, ap}
 use Rattle.std.proofs.Common.{subst, ◌∙◌, arith, lit<, length-append, drop_at, length-take-le}
 use Rattle.std.proofs.Math.Nat.{mod-eq_of_lt}
@@ -32,7 +32,7 @@ pub record Stands (s : List ℕ) (h : RecordHeader) : Type 0 where
 same : (x y : ℕ) → not (eqb x y) ≡ false → x ≡ y
 same x y e = eqb-true x y (not-false (eqb x y) e)
 
-all_passed : (s : List ℕ) → lowest (header_rows s ++ value_rows s) ≡ none → Stands s (header_of s)
+all_passed : (s : List ℕ) → lowest (header_rows s ++ value_rows s) ≡ None → Stands s (header_of s)
 unfolding header_rows value_rows header_of
 all_passed s none-applies =
     let r2 = lowest_none _ _ none-applies in

@@ -7,8 +7,6 @@ ghost use Rattle.tlv.specs.Layout.{field};
 ghost use Rattle.tlv.specs.Found.{header, step, made, no_header, fields_of, found, found_unless, value_rows, number_of, found_header, found_step};
 ghost use Rattle.tlv.specs.Passing.{inside, pass_at};
 
-use endian::Number;
-
 // Refusals 2 to 8 of document 01.
 #[derive(Clone, Copy)]
 pub enum Fault {
@@ -21,18 +19,19 @@ pub enum Fault {
     ValueHash,
 }
 
-// The number of a refusal, as document 01 has it.
-pub fn number(f: Fault) -> u8
-    ensures { result ≡ number_of f }
-{
-    match f {
-        Fault::HeaderCut => 2,
-        Fault::Magic => 3,
-        Fault::Version => 4,
-        Fault::HashType => 5,
-        Fault::HeaderHash => 6,
-        Fault::ValueCut => 7,
-        Fault::ValueHash => 8,
+impl From<Fault> for u8 {
+    ghost from_gives = { λ f n. n ≡ number_of f };
+
+    fn from(f: Fault) -> u8 {
+        match f {
+            Fault::HeaderCut => 2,
+            Fault::Magic => 3,
+            Fault::Version => 4,
+            Fault::HashType => 5,
+            Fault::HeaderHash => 6,
+            Fault::ValueCut => 7,
+            Fault::ValueHash => 8,
+        }
     }
 }
 
@@ -42,20 +41,6 @@ pub struct RecordHeader {
     pub tag: u16,
     pub length: u64,
     pub hash: u64,
-}
-
-#[derive(Clone, Copy)]
-pub enum HeaderRead {
-    Header(RecordHeader),
-    Fault(Fault),
-}
-
-// What stands at a place.
-#[derive(Clone, Copy)]
-pub enum Step {
-    End,
-    Record(RecordHeader),
-    Fault(Fault),
 }
 
 impl RecordHeader {
@@ -80,26 +65,26 @@ impl RecordHeader {
     pub const MAGIC: u64 = 0x89544C560D0A1A0A;
 
     // The header at the front of what is left. Its tests come in the order of their numbers.
-    pub fn read(s: &[u8]) -> HeaderRead
+    pub fn read(s: &[u8]) -> Result<RecordHeader, Fault>
         ensures { found_header result ≡ header s.now }
     {
         if s.len() < RecordHeader::LENGTH {
-            return HeaderRead::Fault(Fault::HeaderCut);
+            return Err(Fault::HeaderCut);
         }
         if field(s, 0, 8) != RecordHeader::MAGIC {
-            return HeaderRead::Fault(Fault::Magic);
+            return Err(Fault::Magic);
         }
         if field(s, RecordHeader::VERSION, 1) != 0 {
-            return HeaderRead::Fault(Fault::Version);
+            return Err(Fault::Version);
         }
         if field(s, RecordHeader::HASH_TYPE, 1) != 8 {
-            return HeaderRead::Fault(Fault::HashType);
+            return Err(Fault::HashType);
         }
         let hash = xxh64::xxh64(&s[..RecordHeader::HEADER_HASH]) % 65536;
         if field(s, RecordHeader::HEADER_HASH, 2) != hash {
-            return HeaderRead::Fault(Fault::HeaderHash);
+            return Err(Fault::HeaderHash);
         }
-        HeaderRead::Header(RecordHeader::fields(s))
+        Ok(RecordHeader::fields(s))
     }
 
     // The fields at the front of a slice, tested by nobody: for a pack that has been checked before.
@@ -144,10 +129,7 @@ fn field(s: &[u8], at: usize, width: usize) -> u64
     requires { (width ≤ 8) × (at + width ≤ length s.now) }
     ensures { (result ≡ field s.now at width) × (result < 256 ^ width) }
 {
-    match endian::read_big(s, at, width) {
-        Number::Read(n) => n,
-        Number::Missing => 0,
-    }
+    endian::read_big(s, at, width).unwrap()
 }
 
 // Whether a value of this length ends within what is left. Nothing is added to the length before it
@@ -159,41 +141,40 @@ fn value_fits(length: u64, left: usize) -> bool
 }
 
 // The step where a header stands.
-fn step_value(s: &[u8], h: RecordHeader) -> Step
+fn step_value(s: &[u8], h: RecordHeader) -> Result<RecordHeader, Fault>
     requires { header s.now ≡ found h }
-    ensures { found_step result ≡ found_unless (lowest (value_rows s.now)) h }
+    ensures { found_header result ≡ found_unless (lowest (value_rows s.now)) h }
 {
     let left = s.len() - RecordHeader::LENGTH;
     let length = h.length;
     if !value_fits(length, left) {
-        return Step::Fault(Fault::ValueCut);
+        return Err(Fault::ValueCut);
     }
     let end = RecordHeader::LENGTH + length as usize;
     let start = RecordHeader::LENGTH;
     if h.hash != xxh64::xxh64(&s[start..end]) {
-        return Step::Fault(Fault::ValueHash);
+        return Err(Fault::ValueHash);
     }
-    Step::Record(h)
+    Ok(h)
 }
 
-fn step_front(s: &[u8]) -> Step
+fn step_front(s: &[u8]) -> Result<RecordHeader, Fault>
     requires { 0 < length s.now }
-    ensures { found_step result ≡ step s.now }
+    ensures { found_header result ≡ step s.now }
 {
-    match RecordHeader::read(s) {
-        HeaderRead::Header(h) => step_value(s, h),
-        HeaderRead::Fault(f) => Step::Fault(f),
-    }
+    let h = RecordHeader::read(s)?;
+    step_value(s, h)
 }
 
-// What stands at a place of a pack.
-pub fn step_at(pack: &[u8], at: usize) -> Step
+// What stands at a place of a pack. None: its end.
+pub fn step_at(pack: &[u8], at: usize) -> Result<Option<RecordHeader>, Fault>
     ensures { found_step result ≡ step (drop at pack.now) }
 {
     if pack.len() <= at {
-        return Step::End;
+        return Ok(None);
     }
-    step_front(&pack[at..])
+    let h = step_front(&pack[at..])?;
+    Ok(Some(h))
 }
 
 // A record of a pack that has been checked before, and the place after it.
@@ -207,13 +188,8 @@ pub struct Passed {
 fn inside(len: usize, at: usize, length: u64) -> bool
     ensures { result ≡ inside len at length }
 {
-    if len < RecordHeader::LENGTH {
-        return false;
-    }
-    if len - RecordHeader::LENGTH < at {
-        return false;
-    }
-    value_fits(length, len - RecordHeader::LENGTH - at)
+    slices::lies(len, at, RecordHeader::LENGTH)
+        && value_fits(length, len - RecordHeader::LENGTH - at)
 }
 
 fn fields_at(pack: &[u8], at: usize) -> RecordHeader

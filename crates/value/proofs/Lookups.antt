@@ -2,7 +2,7 @@
 use Prim.Native.Nat.{ℕ, zero, suc}
 use mathlib.Core.Bool.{Bool, false}
 use mathlib.Core.List.{List}
-use mathlib.Core.Option.{Option, none, some}
+use Rattle.std.specs.Prelude.{Option, None, Some}
 use mathlib.Core.Path.{◌≡◌, refl}
 use native.Mathlib.Omega.{arith}
 use borrow.Author.Tests.{lt-ltb}
@@ -24,7 +24,7 @@ module _ (key m : List ℕ) (p : ℕ) (e : last_value key m ≡ place_told p) wh
   unfolding natural_under read_natural
   natural_told absent = rw e (read_front absent read_natural m (place_told p))
 
-  pub bytes_told : bytes_under key m ≡ at_place none (λ k. shifted k (read_binary (drop k m))) (place_told p)
+  pub bytes_told : bytes_under key m ≡ at_place None (λ k. shifted k (read_binary (drop k m))) (place_told p)
   unfolding bytes_under
   bytes_told = rw e
 
@@ -34,11 +34,11 @@ module _ (key m : List ℕ) (p : ℕ) (e : last_value key m ≡ place_told p) wh
 
 -- where there is no map
 module _ (key m : List ℕ) (e : last_value key m ≡ broken) where
-  pub no_natural : (absent : Option ℕ) → natural_under byte_view key m absent ≡ none
+  pub no_natural : (absent : Option ℕ) → natural_under byte_view key m absent ≡ None
   unfolding natural_under
   no_natural absent = rw e
 
-  pub no_bytes : bytes_under key m ≡ none
+  pub no_bytes : bytes_under key m ≡ None
   unfolding bytes_under
   no_bytes = rw e
 
@@ -50,8 +50,8 @@ module _ (limit : ℕ) (t : Telling) (s : List ℕ) where
     pub tells : with_list byte_view limit t s ≡ told
     pub repeating : items_repeat byte_view (byte_view.items s) ≡ repeated
 
-  module _ (n size : ℕ) (e : read_array s ≡ some (counted n size)) where
-    pub list_empty : n ≡ 0 → ListIs (some t) false
+  module _ (n size : ℕ) (e : read_array s ≡ Some (counted n size)) where
+    pub list_empty : n ≡ 0 → ListIs (Some t) false
     unfolding with_list items_from
     list_empty z = record { tells = rw (e, z); repeating = rw (e, z) }
 
@@ -59,15 +59,15 @@ module _ (limit : ℕ) (t : Telling) (s : List ℕ) where
     unfolding with_list items_from
     list_single o = record { tells = rw (e, o); repeating = rw (e, o) }
 
-    pub list_longer : (n ≡ 0 → ⊥) → (n ≡ 1 → ⊥) → with_list byte_view limit t s ≡ none
+    pub list_longer : (n ≡ 0 → ⊥) → (n ≡ 1 → ⊥) → with_list byte_view limit t s ≡ None
     unfolding with_list items_from
     list_longer z o = rw e (by n z o)
       where
-        by : (k : ℕ) → (k ≡ 0 → ⊥) → (k ≡ 1 → ⊥) → with_items byte_view limit t (items_from k (drop size s)) ≡ none
+        by : (k : ℕ) → (k ≡ 0 → ⊥) → (k ≡ 1 → ⊥) → with_items byte_view limit t (items_from k (drop size s)) ≡ None
         by zero x y = absurd (x refl)
         by (suc zero) x y = absurd (y refl)
         by (suc (suc k)) x y = refl
 
-  pub no_list : read_array s ≡ none → with_list byte_view limit t s ≡ none
+  pub no_list : read_array s ≡ None → with_list byte_view limit t s ≡ None
   unfolding with_list
   no_list e = rw e

@@ -1,6 +1,6 @@
 -- The header of a value, as document 01's "The value" describes it: what it tells of the two parts, or nothing where it is not as described.
 use Rattle.std.specs.Prelude.{ℕ, Bool, true, false, cond, ◌||◌, List, [], ◌∷◌, ◌≡◌, leb, length}
-use Rattle.std.proofs.Math.Option.{Option, none, some}
+use Rattle.std.specs.Prelude.{Option, None, Some}
 use Rattle.refusals.specs.Answers.{Answer, granted, or_refused, if_once}
 use Rattle.msgpack.specs.Readers as msgpack
 use Rattle.msgpack.specs.Lookup.{Under, found, missing, broken, last_value, at_place, if_there, over}
@@ -10,8 +10,6 @@ use Rattle.value.specs.Fields.{natural_under, bytes_under, is_there}
 use Rattle.value.specs.declared.Part.{Part}
 use Rattle.value.specs.declared.Told.{Told}
 use Rattle.value.specs.declared.HeaderPlaces.{HeaderPlaces}
-use Rattle.value.specs.declared.Described.{Described}
-use Rattle.value.specs.declared.Described.TheVariants as described-answer
 
 -- ---- the keys: each is a text of one byte
 
@@ -69,7 +67,7 @@ telling_with t length compression encrypted =
 
 -- where the test holds, so much; otherwise nothing
 abbrev pub only_if : {A : Type 0} → Bool → Option A → Option A
-only_if test a = cond test a none
+only_if test a = cond test a None
 
 -- ---- the rules, over what is seen of the header
 
@@ -77,37 +75,37 @@ module _ {I : Type 0} (view : View I) where
   -- where the header m lists no secondary part
   unfoldable pub alone : I → Option Telling
   alone m =
-      if_there (natural_under view compression_key m (some 0)) λ c.
-      if_there (natural_under view version_key m (some 0)) λ v.
-      some (telling_alone v c (is_there view encryption_key m))
+      if_there (natural_under view compression_key m (Some 0)) λ c.
+      if_there (natural_under view version_key m (Some 0)) λ v.
+      Some (telling_alone v c (is_there view encryption_key m))
 
   -- with the secondary part of which the map m tells, and which has at most `limit` bytes; `c` of its own stands for that part, and otherwise the
   -- primary's does
   unfoldable pub with_map : ℕ → Telling → I → Option Telling
   with_map limit t m =
-      if_there (natural_under view length_key m none) λ l.
+      if_there (natural_under view length_key m None) λ l.
       only_if (leb l limit)
-      (if_there (natural_under view compression_key m (some t.primary.compression)) λ c.
-      some (telling_with t l c (is_there view encryption_key m)))
+      (if_there (natural_under view compression_key m (Some t.primary.compression)) λ c.
+      Some (telling_with t l c (is_there view encryption_key m)))
 
   -- a list of no item, or of one map
   abbrev pub with_items : ℕ → Telling → List I → Option Telling
-  with_items limit t [] = some t
+  with_items limit t [] = Some t
   with_items limit t (m ∷ []) = with_map limit t m
-  with_items limit t (m ∷ n ∷ ms) = none
+  with_items limit t (m ∷ n ∷ ms) = None
 
   unfoldable pub with_list : ℕ → Telling → I → Option Telling
   with_list limit t l = if_there (view.items l) (with_items limit t)
 
   unfoldable pub telling : ℕ → I → Option Telling
-  telling limit m = if_there (alone m) λ t. at_place (some t) (with_list limit t) (view.under secondary_key m)
+  telling limit m = if_there (alone m) λ t. at_place (Some t) (with_list limit t) (view.under secondary_key m)
 
   -- whether a key that is read repeats in the map that the list under `s` has
   abbrev pub items_repeat : Option (List I) → Bool
-  items_repeat (some []) = false
-  items_repeat (some (m ∷ [])) = repeats view secondary_keys m
-  items_repeat (some (m ∷ n ∷ ms)) = false
-  items_repeat none = false
+  items_repeat (Some []) = false
+  items_repeat (Some (m ∷ [])) = repeats view secondary_keys m
+  items_repeat (Some (m ∷ n ∷ ms)) = false
+  items_repeat None = false
 
   abbrev pub list_repeats : Under I → Bool
   list_repeats (found l) = items_repeat (view.items l)
@@ -125,7 +123,7 @@ pub record Header (B : Type 0) : Type 0 where
   pub told : Telling
 
 abbrev pub header_by : {B : Type 0} → Option B → Option Telling → Option (Header B)
-header_by bytes telling = if_there bytes λ b. if_there telling λ t. some (record { primary = b; told = t })
+header_by bytes telling = if_there bytes λ b. if_there telling λ t. Some (record { primary = b; told = t })
 
 -- 11, where the header is not as described; then 22, where a key repeats
 abbrev pub tested : {A : Type 0} → Bool → Option A → Answer A
@@ -160,10 +158,6 @@ telling_of t =
     }
 
 -- ---- for the code's private functions
-
-abbrev pub told_of : Described → Option Told
-told_of (described-answer.As t) = some t
-told_of described-answer.Not = none
 
 -- the header m where it lists no secondary part
 unfoldable pub header_alone : List ℕ → Option Told

@@ -1,7 +1,7 @@
 -- Headers that are seen alike tell the same: the rules look at a header through its view alone.
 use Rattle.std.specs.Prelude.{ℕ, Bool, ◌||◌, List, [], ◌∷◌, ◌≡◌}
 use Rattle.std.proofs.Math.Bool.{true, false}
-use Rattle.std.proofs.Math.Option.{Option, none, some}
+use Rattle.std.specs.Prelude.{Option, None, Some}
 use Rattle.std.proofs.Math.Path.{refl, sym, ap}
 use Rattle.std.proofs.Common.{◌∙◌}
 use Rattle.slices.specs.Logic.{neither_so}
@@ -39,8 +39,8 @@ module _ {I J : Type 0} (v : View I) (w : View J) (R : I → J → Type 0) (alik
   unfolding alone
   alone_alike i j k =
       rw (
-        natural_alike compression_key i j k.1.1.0 (some 0),
-        natural_alike version_key i j k.1.1.1.1.0 (some 0),
+        natural_alike compression_key i j k.1.1.0 (Some 0),
+        natural_alike version_key i j k.1.1.1.1.0 (Some 0),
         there_alike encryption_key i j k.1.1.1.0,
       )
 
@@ -49,18 +49,18 @@ module _ {I J : Type 0} (v : View I) (w : View J) (R : I → J → Type 0) (alik
     unfolding with_map
     map_alike i j k =
         rw (
-          natural_alike length_key i j k.0 none,
-          natural_alike compression_key i j k.1.0 (some t.primary.compression),
+          natural_alike length_key i j k.0 None,
+          natural_alike compression_key i j k.1.0 (Some t.primary.compression),
           there_alike encryption_key i j k.1.1.0,
         )
 
-    list_alike : (l : I) (m : J) → R l m → ((a : I) (b : J) → v.items l ≡ some (a ∷ []) → R a b → SameKeys v w R secondary_keys a b)
+    list_alike : (l : I) (m : J) → R l m → ((a : I) (b : J) → v.items l ≡ Some (a ∷ []) → R a b → SameKeys v w R secondary_keys a b)
         → with_list v limit t l ≡ with_list w limit t m
     unfolding with_list
     list_alike l m r inner = by (alike.items r) inner
       where
         by : {o : Option (List I)} {p : Option (List J)} → Both (Each R) o p
-            → ((a : I) (b : J) → o ≡ some (a ∷ []) → R a b → SameKeys v w R secondary_keys a b)
+            → ((a : I) (b : J) → o ≡ Some (a ∷ []) → R a b → SameKeys v w R secondary_keys a b)
             → if_there o (with_items v limit t) ≡ if_there p (with_items w limit t)
         by (both no_more) h = refl
         by (both (and_each {a = a} {b = b} x no_more)) h = map_alike a b (h a b refl x)
@@ -70,22 +70,22 @@ module _ {I J : Type 0} (v : View I) (w : View J) (R : I → J → Type 0) (alik
   -- ---- the header: items alike under the keys that are read in it, and in the map in `s`
 
   pub telling_alike : (limit : ℕ) (i : I) (j : J) → SameKeys v w R header_keys i j
-      → ((l a : I) (b : J) → v.under secondary_key i ≡ found l → v.items l ≡ some (a ∷ []) → R a b → SameKeys v w R secondary_keys a b)
+      → ((l a : I) (b : J) → v.under secondary_key i ≡ found l → v.items l ≡ Some (a ∷ []) → R a b → SameKeys v w R secondary_keys a b)
       → telling v limit i ≡ telling w limit j
   unfolding telling
   telling_alike limit i j k inner = rw (alone_alike i j k) (each (alone w j))
     where
       by : (t : Telling) {o : Under I} {p : Under J} → SameUnder R o p
-          → ((l a : I) (b : J) → o ≡ found l → v.items l ≡ some (a ∷ []) → R a b → SameKeys v w R secondary_keys a b)
-          → at_place (some t) (with_list v limit t) o ≡ at_place (some t) (with_list w limit t) p
+          → ((l a : I) (b : J) → o ≡ found l → v.items l ≡ Some (a ∷ []) → R a b → SameKeys v w R secondary_keys a b)
+          → at_place (Some t) (with_list v limit t) o ≡ at_place (Some t) (with_list w limit t) p
       by t (both_found {i = l} {j = m} r) h = list_alike limit t l m r (λ a b. h l a b refl)
       by t both_missing h = refl
       by t both_broken h = refl
 
-      each : (o : Option Telling) → (if_there o λ t. at_place (some t) (with_list v limit t) (v.under secondary_key i))
-          ≡ (if_there o λ t. at_place (some t) (with_list w limit t) (w.under secondary_key j))
-      each (some t) = by t k.1.0 inner
-      each none = refl
+      each : (o : Option Telling) → (if_there o λ t. at_place (Some t) (with_list v limit t) (v.under secondary_key i))
+          ≡ (if_there o λ t. at_place (Some t) (with_list w limit t) (w.under secondary_key j))
+      each (Some t) = by t k.1.0 inner
+      each None = refl
 
   -- ---- in both the same keys repeat
 

@@ -1,5 +1,5 @@
 -- A value: its header is the first item, and the secondary part is all that follows. Refusals 9, 10, 11, 22 and 12, in that order.
-use Rattle.std.specs.Prelude.{ℕ, ◌+◌, ◌≤◌, false, cond, List, ◌≡◌, eqb, length, take, drop}
+use Rattle.std.specs.Prelude.{ℕ, ◌+◌, ◌≤◌, false, cond, List, ◌≡◌, eqb, length, take, drop, Result, Ok, Err}
 use Rattle.std.specs.Borrow.{Bor}
 use Rattle.slices.specs.Places.{address_at}
 use Rattle.refusals.specs.Answers.{Answer, refused, granted}
@@ -8,10 +8,10 @@ use Rattle.msgpack.specs.Views.{byte_view}
 use Rattle.value.specs.Header.{header_repeats, tested, coding, part, header}
 use Rattle.value.specs.declared.Part.{Part}
 use Rattle.value.specs.declared.Told.{Told}
+use Rattle.msgpack.specs.declared.Fault as msgpack
+use Rattle.msgpack.specs.declared.Fault.TheVariants as passing-fault
 use Rattle.value.specs.declared.Fault.{Fault}
 use Rattle.value.specs.declared.Fault.TheVariants.{Cut, TooDeep, Header, Repeated, NotFilled}
-use Rattle.value.specs.declared.Reading.{Reading}
-use Rattle.value.specs.declared.Reading.TheVariants as reading-answer
 
 -- a header of n bytes and the secondary part have to fill the value s
 abbrev pub filled : ℕ → List ℕ → Answer Told → Answer Told
@@ -37,9 +37,14 @@ number_of Header = 11
 number_of Repeated = 22
 number_of NotFilled = 12
 
-abbrev pub answer_of : Reading → Answer Told
-answer_of (reading-answer.Told t) = granted t
-answer_of (reading-answer.Refused f) = refused (number_of f)
+-- of passing over the first item
+abbrev pub fault_of : msgpack.Fault → Fault
+fault_of passing-fault.Cut = Cut
+fault_of passing-fault.TooDeep = TooDeep
+
+abbrev pub answer_of : Result Told Fault → Answer Told
+answer_of (Ok t) = granted t
+answer_of (Err f) = refused (number_of f)
 
 -- ---- the parts of a value
 

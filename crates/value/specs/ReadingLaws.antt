@@ -1,6 +1,6 @@
 -- The parts of a value that is read lie inside it: the primary part in the header, and the secondary part is all that follows the header.
 use Rattle.std.specs.Prelude.{ℕ, ◌+◌, ◌≤◌, Bool, true, false, cond, List, ◌≡◌, refl, eqb, length, take, drop}
-use Rattle.std.proofs.Math.Option.{Option, none, some}
+use Rattle.std.specs.Prelude.{Option, None, Some}
 use Rattle.std.proofs.Common.{sym, ap, ◌∙◌, arith, eq-eqb, eqb-true, length-drop, take_all, length-take-le}
 use Rattle.slices.specs.Logic.{absurd_numbers}
 use Rattle.std.specs.Borrow.{Bor}
@@ -25,38 +25,38 @@ use Rattle.value.specs.declared.Told.{Told}
 -- ---- the header
 
 -- the bytes of a key lie within the map
-bytes_inside : (key m : List ℕ) (p : msgpack.Part) → bytes_under key m ≡ some p → p.start + p.size ≤ length m
+bytes_inside : (key m : List ℕ) (p : msgpack.Part) → bytes_under key m ≡ Some p → p.start + p.size ≤ length m
 unfolding bytes_under
 bytes_inside key m p e = by (last_value key m) refl e
   where
-    at : (k : ℕ) (r : Option msgpack.Part) → k ≤ length m → read_binary (drop k m) ≡ r → shifted k r ≡ some p → p.start + p.size ≤ length m
-    at k (some b) l q f =
+    at : (k : ℕ) (r : Option msgpack.Part) → k ≤ length m → read_binary (drop k m) ≡ r → shifted k r ≡ Some p → p.start + p.size ≤ length m
+    at k (Some b) l q f =
         let is : msgpack.part (k + b.start) b.size ≡ p = cc in
         rw (← is) (omega (arith, part_inside binary_kind (drop k m) b q, length-drop k m))
-    at k none l q f = absurd_numbers (cc)
+    at k None l q f = absurd_numbers (cc)
 
-    by : (r : ValuePlace) → last_value key m ≡ r → at_place none (λ k. shifted k (read_binary (drop k m))) r ≡ some p → p.start + p.size ≤ length m
+    by : (r : ValuePlace) → last_value key m ≡ r → at_place None (λ k. shifted k (read_binary (drop k m))) r ≡ Some p → p.start + p.size ≤ length m
     by (found k) q f = at k (read_binary (drop k m)) (omega (arith, value_inside key m k q)) refl f
     by missing q f = absurd_numbers (cc)
     by broken q f = absurd_numbers (cc)
 
 -- t is told by the header m
 record Placed (m : List ℕ) (t : Told) : Type 0 where
-  primary_is : bytes_under primary_key m ≡ some (msgpack.part t.primary.start t.primary.len)
+  primary_is : bytes_under primary_key m ≡ Some (msgpack.part t.primary.start t.primary.len)
   after_header : t.secondary.start ≡ length m
 
-header_placed : (limit : ℕ) (m : List ℕ) (t : Told) → header limit m ≡ some t → Placed m t
+header_placed : (limit : ℕ) (m : List ℕ) (t : Told) → header limit m ≡ Some t → Placed m t
 unfolding header
 header_placed limit m t e = by (bytes_under primary_key m) refl (telling byte_view limit m) e
   where
-    by : (b : Option msgpack.Part) → bytes_under primary_key m ≡ b → (u : Option Telling) → over (told_in m) (header_by b u) ≡ some t → Placed m t
-    by (some b) q (some u) f = let is : told_at b.start b.size (length m) u ≡ t = cc in rw (← is) (record { primary_is = q; after_header = refl })
-    by (some b) q none f = absurd_numbers (cc)
-    by none q u f = absurd_numbers (cc)
+    by : (b : Option msgpack.Part) → bytes_under primary_key m ≡ b → (u : Option Telling) → over (told_in m) (header_by b u) ≡ Some t → Placed m t
+    by (Some b) q (Some u) f = let is : told_at b.start b.size (length m) u ≡ t = cc in rw (← is) (record { primary_is = q; after_header = refl })
+    by (Some b) q None f = absurd_numbers (cc)
+    by None q u f = absurd_numbers (cc)
 
 -- the primary part is what stands under `e`
-pub primary_is : (limit : ℕ) (m : List ℕ) (t : Told) → header limit m ≡ some t
-    → bytes_under primary_key m ≡ some (msgpack.part t.primary.start t.primary.len)
+pub primary_is : (limit : ℕ) (m : List ℕ) (t : Told) → header limit m ≡ Some t
+    → bytes_under primary_key m ≡ Some (msgpack.part t.primary.start t.primary.len)
 primary_is limit m t e = (header_placed limit m t e).primary_is
 
 -- ---- the value
@@ -64,11 +64,11 @@ primary_is limit m t e = (header_placed limit m t e).primary_is
 -- s is a value of which t is told: the header is the first item, no key that is read repeats in it, and the secondary part is all that follows
 pub record IsTold (limit : ℕ) (s : List ℕ) (t : Told) : Type 0 where
   pub first_item : pass_over s ≡ whole t.secondary.start
-  pub header_tells : header limit (take t.secondary.start s) ≡ some t
+  pub header_tells : header limit (take t.secondary.start s) ≡ Some t
   pub once : header_repeats byte_view (take t.secondary.start s) ≡ false
   pub fills : t.secondary.start + t.secondary.len ≡ length s
 
-header_end : (limit : ℕ) (s : List ℕ) (n : ℕ) (t : Told) → pass_over s ≡ whole n → header limit (take n s) ≡ some t → t.secondary.start ≡ n
+header_end : (limit : ℕ) (s : List ℕ) (n : ℕ) (t : Told) → pass_over s ≡ whole n → header limit (take n s) ≡ Some t → t.secondary.start ≡ n
 header_end limit s n t w e = (header_placed limit (take n s) t e).after_header ∙ length-take-le n s (bounded depth_allowed s n w).within
 
 pub is_told : (limit : ℕ) (s : List ℕ) (t : Told) → reading limit s ≡ granted t → IsTold limit s t
@@ -77,9 +77,9 @@ is_told limit s t e = by (pass_over s) refl e
   where
     fill : (n : ℕ) → pass_over s ≡ whole n → (r : Bool) → header_repeats byte_view (take n s) ≡ r → (d : Option Told) → header limit (take n s) ≡ d
         → filled n s (tested r d) ≡ granted t → IsTold limit s t
-    fill n w r o none q f = absurd_numbers (cc)
-    fill n w true o (some u) q f = absurd_numbers (cc)
-    fill n w false o (some u) q f = test (eqb (n + u.secondary.len) (length s)) refl f
+    fill n w r o None q f = absurd_numbers (cc)
+    fill n w true o (Some u) q f = absurd_numbers (cc)
+    fill n w false o (Some u) q f = test (eqb (n + u.secondary.len) (length s)) refl f
       where
         test : (b : Bool) → eqb (n + u.secondary.len) (length s) ≡ b → cond b (granted u) (refused 12) ≡ granted t → IsTold limit s t
         test true g h =

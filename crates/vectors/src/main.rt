@@ -3,69 +3,86 @@
 // line of standard output is the title and what is found.
 #![tactic(auto)]
 
-use crate::input::{read_field, read_number};
+use crate::heads::Head;
 use crate::show::say;
+use console::{read_field, read_number};
 
 mod heads;
-mod input;
 mod show;
 
-const HASH: usize = 0;
+// What is done with a vector's bytes.
+#[derive(Clone, Copy)]
+enum Kind {
+    Hash,
+    Item,
+    Integer,
+    Text,
+    Binary,
+    Boolean,
+    Array,
+    Map,
+    Key,
+    Pair,
+    Head(Head),
+}
 
-const ITEM: usize = 1;
-
-const INTEGER: usize = 2;
-
-const TEXT: usize = 3;
-
-const BINARY: usize = 4;
-
-const BOOLEAN: usize = 5;
-
-const ARRAY: usize = 6;
-
-const MAP: usize = 7;
-
-const KEY: usize = 8;
-
-const PAIR: usize = 9;
+impl From<usize> for Kind {
+    fn from(number: usize) -> Kind {
+        match number {
+            0 => Kind::Hash,
+            1 => Kind::Item,
+            2 => Kind::Integer,
+            3 => Kind::Text,
+            4 => Kind::Binary,
+            5 => Kind::Boolean,
+            6 => Kind::Array,
+            7 => Kind::Map,
+            8 => Kind::Key,
+            9 => Kind::Pair,
+            10 => Kind::Head(Head::Text),
+            11 => Kind::Head(Head::Binary),
+            12 => Kind::Head(Head::Array),
+            13 => Kind::Head(Head::Map),
+            _ => Kind::Head(Head::Unsigned),
+        }
+    }
+}
 
 // A key, by its code.
 fn look_up(rt: &impl Print, map: &[u8], code: u64) {
     show::say_found(rt, msgpack::read_pairs(map, [code, 0, 0, 0, 0, 0, 0, 0]));
 }
 
-fn run_kind(rt: &(impl Input + Print), kind: usize, bytes: &[u8]) {
+fn run_kind(rt: &(impl Input + Print), kind: Kind, bytes: &[u8]) {
     match kind {
-        HASH => show::say_hash(rt, xxh64::xxh64(bytes)),
-        ITEM => show::say_passed(rt, msgpack::pass_over(bytes)),
-        INTEGER => show::say_integer(rt, msgpack::read_integer(bytes)),
-        TEXT => show::say_content(rt, msgpack::read_text(bytes)),
-        BINARY => show::say_content(rt, msgpack::read_binary(bytes)),
-        BOOLEAN => show::say_boolean(rt, msgpack::read_boolean(bytes)),
-        ARRAY => show::say_items(rt, msgpack::read_array(bytes)),
-        MAP => show::say_items(rt, msgpack::read_map(bytes)),
-        KEY => look_up(rt, bytes, read_number(rt) as u64),
-        PAIR => show::say_pair(rt, msgpack::pair_at(bytes, read_number(rt))),
-        _ => heads::run(rt, kind),
+        Kind::Hash => show::say_hash(rt, xxh64::xxh64(bytes)),
+        Kind::Item => show::say_passed(rt, msgpack::pass_over(bytes)),
+        Kind::Integer => show::say_integer(rt, msgpack::read_integer(bytes)),
+        Kind::Text => show::say_content(rt, msgpack::read_text(bytes)),
+        Kind::Binary => show::say_content(rt, msgpack::read_binary(bytes)),
+        Kind::Boolean => show::say_boolean(rt, msgpack::read_boolean(bytes)),
+        Kind::Array => show::say_items(rt, msgpack::read_array(bytes)),
+        Kind::Map => show::say_items(rt, msgpack::read_map(bytes)),
+        Kind::Key => look_up(rt, bytes, read_number(rt, &mut [0; 8]) as u64),
+        Kind::Pair => show::say_pair(rt, msgpack::pair_at(bytes, read_number(rt, &mut [0; 8]))),
+        Kind::Head(head) => heads::run(rt, head),
     }
 }
 
 fn run_vector(rt: &(impl Input + Print), buffer: &mut [u8]) {
     let title = read_field(rt, buffer);
-    say(rt, &buffer[0..title]);
-    let kind = read_number(rt);
+    let _ = rt.write_all(&buffer[..title]);
+    let kind = Kind::from(read_number(rt, &mut [0; 8]));
     let n = read_field(rt, buffer);
-    run_kind(rt, kind, &buffer[0..n]);
-    say(rt, b"\n");
+    run_kind(rt, kind, &buffer[..n]);
+    say(rt, "\n");
 }
 
 // Below 65,536 of them, so that a wrong input too comes to an end.
 fn run(rt: &(impl Input + Print), buffer: &mut [u8]) {
-    let mut left = read_number(rt) % 65536;
-    while 0 < left {
+    let count = read_number(rt, &mut [0; 8]) % 65536;
+    for _ in 0..count {
         run_vector(rt, buffer);
-        left -= 1;
     }
 }
 

@@ -3,7 +3,7 @@ use Prim.Native.Nat.{ℕ, ◌+◌, ◌/◌, ◌≤◌}
 use mathlib.Core.Bool.{Bool, true, false, cond}
 use mathlib.Core.List.Memᴰ
 use mathlib.Core.List.{List, [], ◌∷◌, ◌++◌, map}
-use mathlib.Core.Option.{Option, none, some}
+use Rattle.std.specs.Prelude.{Option, None, Some}
 use mathlib.Core.Path.{◌≡◌, refl, sym, ap, subst, ◌∙◌}
 use native.Mathlib.Omega.{arith}
 use borrow.Author.Tests.{leb-true, le-leb}
@@ -35,23 +35,23 @@ use Rattle.why_current.specs.Rows.{reason_text, row_text, rows_text, no_rows}
 
 -- only what the lookup finds is told as the one that others are older than
 module _ (start : ℕ) (c : Version) where
-  chosen : (here marker : Bool) (d : Version) → cond here (cond marker current_marker explanation.current) (older d) ≡ older c → some d ≡ some c
+  chosen : (here marker : Bool) (d : Version) → cond here (cond marker current_marker explanation.current) (older d) ≡ older c → Some d ≡ Some c
   chosen true true d e = absurd_numbers (cc)
   chosen true false d e = absurd_numbers (cc)
-  chosen false marker d e = let same : d ≡ c = cc in ap some same
+  chosen false marker d e = let same : d ≡ c = cc in ap Some same
 
-  standing : (marker : Bool) (found : Option Version) → unless_older start found (cond marker current_marker explanation.current) ≡ older c → found ≡ some c
-  standing true none e = absurd_numbers (cc)
-  standing false none e = absurd_numbers (cc)
-  standing marker (some d) e = chosen (eqb d.start start) marker d e
+  standing : (marker : Bool) (found : Option Version) → unless_older start found (cond marker current_marker explanation.current) ≡ older c → found ≡ Some c
+  standing true None e = absurd_numbers (cc)
+  standing false None e = absurd_numbers (cc)
+  standing marker (Some d) e = chosen (eqb d.start start) marker d e
 
   older_found : (marker : Bool) (gone before : Option ℕ) (found : Option Version)
-      → unless_removed gone (unless_repeated start before (unless_older start found (cond marker current_marker explanation.current))) ≡ older c → found ≡ some c
-  older_found marker (some p) before found e = absurd_numbers (cc)
-  older_found marker none none found e = standing marker found e
-  older_found marker none (some p) found e = go (eqb p start) e
+      → unless_removed gone (unless_repeated start before (unless_older start found (cond marker current_marker explanation.current))) ≡ older c → found ≡ Some c
+  older_found marker (Some p) before found e = absurd_numbers (cc)
+  older_found marker None None found e = standing marker found e
+  older_found marker None (Some p) found e = go (eqb p start) e
     where
-      go : (t : Bool) → cond t (unless_older start found (cond marker current_marker explanation.current)) (repeated p) ≡ older c → found ≡ some c
+      go : (t : Bool) → cond t (unless_older start found (cond marker current_marker explanation.current)) (repeated p) ≡ older c → found ≡ Some c
       go true h = standing marker found h
       go false h = absurd_numbers (cc)
 
@@ -65,8 +65,8 @@ reason_words_lem start ulid (repeated p) h = refl
 reason_words_lem start ulid (removed p) h = refl
 
 abbrev ulid_of : Option Version → List ℕ
-ulid_of none = []
-ulid_of (some v) = v.identifier.ulid
+ulid_of None = []
+ulid_of (Some v) = v.identifier.ulid
 
 module _ (ps : List Placed) (found : Option Version) where
   row_line : (v : Version) → row_text v.start (reason_number (reason_of ps found v)) (reason_place v.start (reason_of ps found v)) (ulid_of found) ≡ line (line_of ps found v)
@@ -111,23 +111,23 @@ module _ (s bucket object : List ℕ) (found : Option Version) (e : lookup pack_
   told_is = ap (λ a. explain_by a (among s) bucket object) e ∙ go found
     where
       go : (o : Option Version) → explain_by (answer_of o) (among s) bucket object ≡ explained (lines_of (among s) o bucket object)
-      go none = refl
-      go (some v) = refl
+      go None = refl
+      go (Some v) = refl
 
   ulid_is : ulid_found (lookup pack_limit s bucket object) ≡ ulid_of found
   ulid_is = ap ulid_found e ∙ go found
     where
       go : (o : Option Version) → ulid_found (answer_of o) ≡ ulid_of o
-      go none = refl
-      go (some v) = refl
+      go None = refl
+      go (Some v) = refl
 
 -- a version is read, so that its ULID has 26 bytes
 ulid_short : (s bucket object : List ℕ) → length (ulid_of (current (among s) bucket object)) ≤ 26
 ulid_short s bucket object = go (current (among s) bucket object) refl
   where
     go : (o : Option Version) → current (among s) bucket object ≡ o → length (ulid_of o) ≤ 26
-    go none e = omega arith
-    go (some v) e =
+    go None e = omega arith
+    go (Some v) e =
         let is = current_is (among s) bucket object v e in
         let o = Memᴰ.of_map (placed pack_limit s) (reading pack_limit s).entries (current_member is) in
         let r = version_told pack_limit o.0.start o.0.tag (value_of s o.0) v (ap version_of o.2 ∙ is.live.tells) in
@@ -141,8 +141,8 @@ versions_few bucket object [] = omega arith
 versions_few bucket object (p ∷ ps) = go (filtered (is_named bucket object) (version_of p)) (versions_few bucket object ps)
   where
     go : (o : Option Version) → length (versions_of bucket object ps) ≤ length ps → length (with_first o (versions_of bucket object ps)) ≤ length (p ∷ ps)
-    go none h = omega arith
-    go (some v) h = omega arith
+    go None h = omega arith
+    go (Some v) h = omega arith
 
 -- a pack of 65,536 bytes has at most 2,048 records
 lines_few : (s bucket object : List ℕ) (found : Option Version) → AllBytes s → length s ≤ 65536 → (reading pack_limit s).ending ≡ whole

@@ -9,8 +9,8 @@ ghost use Rattle.console.specs.Put.{Put};
 ghost use Rattle.why_current.specs.Text.{bucket_of, object_of, text};
 ghost use Rattle.why_current.specs.Rows.{reason_text, row_text, rows_text, no_rows};
 
-use console::{Input, put, put_decimal, put_refusal};
-use explanation::Explained;
+use console::{Unread, put, put_decimal, put_refusal};
+use explanation::Fault;
 use std::env::FillError;
 use std::rt::Env;
 
@@ -80,12 +80,12 @@ fn put_explanation(out: &mut [u8], name: &[u8], pack: &[u8]) -> usize
 {
     let mut told = no_rows();
     match explanation::explain(pack, bucket(name), object(name), &mut told) {
-        Explained::Lines(n, ulid) => put_rows(out, &told, n, slices::part(pack, ulid)),
-        Explained::Inadmissible => console::put_refusal_alone(out, 20),
-        Explained::TooLong => put_refusal(out, 1, 0),
-        Explained::Fault(f, at) => put_refusal(out, tlv::number(f), at),
-        Explained::Unreadable(f, at) => put_refusal(out, records::number(f), at),
-        Explained::Short => 0,
+        Ok(e) => put_rows(out, &told, e.count, slices::part(pack, e.ulid)),
+        Err(Fault::Lookup(f)) => match f {
+            lookup::Fault::Inadmissible => console::put_refusal_alone(out, 20),
+            _ => put_refusal(out, u8::from(f), f.place()),
+        },
+        Err(Fault::NoRoom) => 0,
     }
 }
 
@@ -151,9 +151,9 @@ fn show_failure(rt: &impl Eprint) {
 fn read_and_show(rt: &(impl std::io::Input + Print + Eprint), name: &[u8]) {
     let mut buffer = [0u8; 65536];
     match console::read_input(rt, &mut buffer) {
-        Input::Bytes(n) => show(rt, name, &buffer[..n]),
-        Input::TooLong => show_too_long(rt),
-        Input::Failed => show_failure(rt),
+        Ok(n) => show(rt, name, &buffer[..n]),
+        Err(Unread::TooLong) => show_too_long(rt),
+        Err(Unread::Failed) => show_failure(rt),
     }
 }
 

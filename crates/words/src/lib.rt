@@ -3,7 +3,7 @@
 #![tactic(auto)]
 
 ghost use Rattle.std.specs.Prelude.{cond, ◌≡◌, ◌+◌, ◌%◌, ◌^◌, ◌≤◌, leb, length};
-ghost use Rattle.slices.specs.Overwriting.{overwritten, written_bytes};
+ghost use Rattle.slices.specs.Overwriting.{written_bytes};
 ghost use Rattle.words.specs.Words.{answer, flag};
 
 // A refusal's number, or 0, and with it a place or a count below 2^56; of a greater one the low 56
@@ -18,18 +18,7 @@ pub fn answer(number: u8, word: usize) -> u64
 pub fn flag(set: bool) -> u64
     ensures { result ≡ flag set }
 {
-    if set { 1 } else { 0 }
-}
-
-fn copy(told: &mut [u64], at: usize, words: &[u64])
-    requires { at + length words.now ≤ length told.old }
-    ensures { told.new ≡ overwritten told.old at words.now }
-{
-    let mut i = 0;
-    while i < words.len() {
-        told[at + i] = words[i];
-        i += 1;
-    }
+    set as u64
 }
 
 // The words take the place of those from at on. Answers whether all fit; where they do not, nothing
@@ -38,14 +27,7 @@ pub fn store(told: &mut [u64], at: usize, words: &[u64]) -> bool
     ensures value { result ≡ leb (at + length words.now) (length told.old) }
     ensures told_after { told.new ≡ written_bytes told.old at words.now }
 {
-    if told.len() < at {
-        return false;
-    }
-    if told.len() - at < words.len() {
-        return false;
-    }
-    copy(told, at, words);
-    true
+    slices::write_bytes(told, at, words)
 }
 
 // The numbers go to the front of the lent words. 19: fewer words are lent, and nothing is written.

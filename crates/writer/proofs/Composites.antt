@@ -2,7 +2,7 @@
 use Prim.Native.Nat.{ℕ, ◌+◌, ◌≤◌}
 use mathlib.Core.Bool.{true}
 use mathlib.Core.List.{List}
-use mathlib.Core.Option.{Option, some}
+use Rattle.std.specs.Prelude.{Option, Some}
 use mathlib.Core.Path.{◌≡◌, refl, sym, ap, ◌∙◌}
 use native.Mathlib.Omega.{arith}
 use lib.ListN.{length}
@@ -33,7 +33,7 @@ module _ (s : List ℕ) {t : List ℕ} (at : ℕ) {n r : ℕ} {told : Option ℕ
       let f = first_fits (text_head (length (composite_text i))) (composite_text i) refl at (length s) fits in
       omega (arith, room, size, ap length head.left, length_overwritten s at (text_head (length (composite_text i))) f)
 
-  pub composite_put : {u : List ℕ} → is_valid i ≡ true → u ≡ left (some i) t r → Puts s at (text_item (composite_text i)) u (r + n)
+  pub composite_put : {u : List ℕ} → is_valid i ≡ true → u ≡ left (Some i) t r → Puts s at (text_item (composite_text i)) u (r + n)
   unfolding text_item
   composite_put {u} valid e =
       let text : Puts t r (composite_text i) u (r + n) = record { left = e ∙ (write_done i t r valid room).1; place = ap (λ (k : ℕ). r + k) (sym size) } in

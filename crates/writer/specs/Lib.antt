@@ -1,3 +1,4 @@
+pub mod Identifiers
 pub mod Values
 pub mod Putting
 pub mod Writing

@@ -3,7 +3,7 @@
 use Rattle.std.specs.Prelude.{ℕ, ◌+◌, ◌≤◌, ◌<◌, ◌^◌, Bool, ◌≡◌, ltb}
 use Rattle.std.proofs.Math.Bool.{true, false, cond}
 use mathlib.Core.List.{List, [], ◌∷◌, ◌++◌, flatten}
-use Rattle.std.proofs.Math.Option.{some}
+use Rattle.std.specs.Prelude.{Some}
 use Rattle.std.proofs.Math.Path.{refl, sym}
 use Rattle.std.proofs.Common.{arith, lt-ltb, ltb-true, ltb-false, length-append}
 use Rattle.std.proofs.lemmas.Bool.{lt-leb}
@@ -47,7 +47,7 @@ module _ (limit room used : ℕ) where
       let k : limit < used + length (layout (record_of tag value)) = omega (arith, length_layout (record_of tag value)) in
       rw (lt-leb _ _ k)
 
-  pub long_content_refused : (item : Item) → limit < length (content_of item) → written limit room used (some item) ≡ refused 20
+  pub long_content_refused : (item : Item) → limit < length (content_of item) → written limit room used (Some item) ≡ refused 20
   unfolding written
   long_content_refused item h = go (admitted item)
     where
@@ -56,7 +56,7 @@ module _ (limit room used : ℕ) where
       go false = refl
 
 -- so a length that a head is written for is below 2^32
-pub heads_hold : (room used n : ℕ) (item : Item) → written pack_limit room used (some item) ≡ granted n → length (content_of item) < 2 ^ 32
+pub heads_hold : (room used n : ℕ) (item : Item) → written pack_limit room used (Some item) ≡ granted n → length (content_of item) < 2 ^ 32
 heads_hold room used n item e = go (ltb pack_limit (length (content_of item))) refl
   where
     go : (t : Bool) → ltb pack_limit (length (content_of item)) ≡ t → length (content_of item) < 2 ^ 32

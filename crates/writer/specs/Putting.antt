@@ -1,6 +1,6 @@
 -- Bytes put one after the other into a buffer.
 use Rattle.std.specs.Prelude.{ℕ, ◌+◌, List, ◌++◌, ◌≡◌, length}
-use Rattle.std.proofs.Math.Option.{Option, none, some}
+use Rattle.std.specs.Prelude.{Option, None, Some}
 use Rattle.slices.specs.Overwriting.{overwritten}
 use Rattle.endian.specs.Numbers.{big_bytes}
 use Rattle.tlv.specs.Layout.{magic}
@@ -13,8 +13,8 @@ pub record Puts (s : List ℕ) (at : ℕ) (e t : List ℕ) (next : ℕ) : Type 0
 
 -- the place that was told
 abbrev pub told_place : Option ℕ → ℕ
-told_place none = 0
-told_place (some n) = n
+told_place None = 0
+told_place (Some n) = n
 
 -- bytes 0..29 of a record with this header
 unfoldable pub field_bytes : RecordHeader → List ℕ

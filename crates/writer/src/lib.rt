@@ -5,25 +5,24 @@
 #![tactic(auto)]
 
 ghost use Rattle.std.specs.Prelude.{◌≡◌, true, ◌+◌, ◌≤◌, ◌<◌, length, take, drop};
-ghost use Rattle.std.proofs.Math.Option.{some};
 ghost use mathlib.Core.List.{◌++◌, flatten};
 ghost use Rattle.slices.specs.Overwriting.{overwritten};
 ghost use Rattle.refusals.specs.Limit.{pack_limit};
 ghost use Rattle.endian.specs.Numbers.{big_bytes};
 ghost use Rattle.tlv.specs.Layout.{head, layout};
-ghost use Rattle.msgpack_heads.specs.Heads.{text_head, binary_head, unsigned_integer, map_head, next_of};
-ghost use Rattle.identifier.specs.Identity.{identity, is_valid};
+ghost use Rattle.msgpack_heads.specs.Heads.{text_head, binary_head, unsigned_integer, map_head};
+ghost use Rattle.identifier.specs.Identity.{is_valid};
 ghost use Rattle.identifier.specs.Ulid.{is_ulid};
 ghost use Rattle.identifier.specs.Composite.{composite_text};
 ghost use Rattle.held_identifier.specs.Held.{named};
 ghost use Rattle.records.specs.Record.{block_tag, version_delete_tag};
 ghost use Rattle.writer.specs.Values.{text_item, pair, primary_header, secondary_header, block_header, part_header, block_part, block_value, part_value, identity_pairs, version_part, delete_part};
 ghost use Rattle.writer.specs.Putting.{Puts, told_place, field_bytes};
+ghost use Rattle.writer.specs.Identifiers.{identity_by, TextsOf};
 ghost use Rattle.writer.specs.Writing.{block, version, version_delete, pack_list, deletion, record_of, of_identity, answer_of, counted, Stores, written, buffer_after, version_part_of, part_written, part_after, StoresPart};
 
 use held_identifier::Identifier;
-use pack_list::Reading;
-use primary::{DeleteRead, VersionRead};
+use refusals::Unwritten;
 use tlv::RecordHeader;
 
 // The fixed bytes, in front of what varies: of a block's header, `{s: [{l`; the key `e`; of every other
@@ -38,13 +37,28 @@ const BLOCK_PART: [u8; 3] = [0x81, 0xa1, b'I'];
 
 const MARKER: [u8; 3] = [0xa1, b'd', 0xc3];
 
-// What a call answers: how many bytes the pack now has, or a part alone; or refusal 19 or 20 of document
-// 01, where nothing was written.
+// The three texts of an identifier.
 #[derive(Clone, Copy)]
-pub enum Written {
-    Count(usize),
-    Short,
-    Inadmissible,
+struct Texts<'a> {
+    ulid: &'a [u8],
+    bucket: &'a [u8],
+    object: &'a [u8],
+}
+
+// Those that an identifier holds, where it is admitted.
+fn admitted_texts(id: &Identifier) -> Result<Texts, Unwritten>
+    ensures { TextsOf (named id.now) result }
+{
+    if !held_identifier::is_admitted(*id) {
+        return Err(Unwritten::Inadmissible);
+    }
+    let n = id.bucketlen;
+    let m = id.objectlen;
+    Ok(Texts {
+        ulid: &id.ulid,
+        bucket: &id.bucket[..n],
+        object: &id.object[..m],
+    })
 }
 
 // ---- lengths
@@ -89,41 +103,42 @@ fn pair_size(key: &[u8], text: &[u8]) -> usize
     text_head_size(key.len()) + key.len() + (text_head_size(text.len()) + text.len())
 }
 
-fn block_part_size(ulid: &[u8], bucket: &[u8], object: &[u8]) -> usize
-    requires { is_valid (identity ulid.now bucket.now object.now) ≡ true }
-    ensures { (result ≡ length (block_part (identity ulid.now bucket.now object.now))) × (result ≤ pack_limit) }
+fn block_part_size(texts: Texts) -> usize
+    requires { is_valid (identity_by texts) ≡ true }
+    ensures { (result ≡ length (block_part (identity_by texts.entry))) × (result ≤ pack_limit) }
 {
-    let text = 28 + bucket.len() + object.len();
+    let text = 28 + texts.bucket.len() + texts.object.len();
     3 + (text_head_size(text) + text)
 }
 
 // Of the pairs of an identifier.
-fn identity_size(ulid: &[u8], bucket: &[u8], object: &[u8]) -> usize
-    requires { is_valid (identity ulid.now bucket.now object.now) ≡ true }
-    ensures { (result ≡ length (flatten (identity_pairs (identity ulid.now bucket.now object.now))))
+fn identity_size(texts: Texts) -> usize
+    requires { is_valid (identity_by texts) ≡ true }
+    ensures { (result ≡ length (flatten (identity_pairs (identity_by texts.entry))))
         × (result ≤ 3111) }
 {
-    let names = pair_size(&primary::BUCKET, bucket) + pair_size(&primary::OBJECT, object);
-    names + pair_size(&primary::ULID, ulid)
+    let names = pair_size(&primary::BUCKET, texts.bucket)
+        + pair_size(&primary::OBJECT, texts.object);
+    names + pair_size(&primary::ULID, texts.ulid)
 }
 
-fn version_part_size(ulid: &[u8], bucket: &[u8], object: &[u8], marker: bool) -> usize
-    requires { is_valid (identity ulid.now bucket.now object.now) ≡ true }
-    ensures { result ≡ length (version_part (identity ulid.now bucket.now object.now) marker) }
+fn version_part_size(texts: Texts, marker: bool) -> usize
+    requires { is_valid (identity_by texts) ≡ true }
+    ensures { result ≡ length (version_part (identity_by texts.entry) marker) }
 {
-    let named = 1 + identity_size(ulid, bucket, object);
+    let named = 1 + identity_size(texts);
     if marker {
         return named + 3;
     }
     named
 }
 
-fn delete_part_size(ulid: &[u8], bucket: &[u8], object: &[u8], deleteid: &[u8]) -> usize
-    requires { (is_valid (identity ulid.now bucket.now object.now) ≡ true) × (is_ulid deleteid.now ≡ true) }
-    ensures { (result ≡ length (delete_part (identity ulid.now bucket.now object.now) deleteid.now))
+fn delete_part_size(texts: Texts, deleteid: &[u8]) -> usize
+    requires { (is_valid (identity_by texts) ≡ true) × (is_ulid deleteid.now ≡ true) }
+    ensures { (result ≡ length (delete_part (identity_by texts.entry) deleteid.now))
         × (result ≤ pack_limit) }
 {
-    1 + identity_size(ulid, bucket, object) + pair_size(&primary::DELETE_ID, deleteid)
+    1 + identity_size(texts) + pair_size(&primary::DELETE_ID, deleteid)
 }
 
 // Of a block's value, from the lengths of its primary part and its data.
@@ -145,13 +160,10 @@ fn part_value_size(part: usize) -> usize
 // ---- bytes put at a place; each function returns the place after them
 
 // The place that the writing of a head told. It is there, since the head has room.
-fn place(w: msgpack_heads::Written) -> usize
-    ensures { result ≡ told_place (next_of w) }
+fn place(next: Option<usize>) -> usize
+    ensures { result ≡ told_place next }
 {
-    match w {
-        msgpack_heads::Written::Next(n) => n,
-        msgpack_heads::Written::NoRoom => 0,
-    }
+    next.unwrap_or(0)
 }
 
 fn put(out: &mut [u8], at: usize, s: &[u8]) -> usize
@@ -178,25 +190,25 @@ fn put_pair(out: &mut [u8], at: usize, key: &[u8], text: &[u8]) -> usize
     put_text(out, start, text)
 }
 
-fn put_composite(out: &mut [u8], at: usize, ulid: &[u8], bucket: &[u8], object: &[u8]) -> usize
-    requires { (is_valid (identity ulid.now bucket.now object.now) ≡ true)
-        × (at + length (text_item (composite_text (identity ulid.now bucket.now object.now))) ≤ length out.old) }
+fn put_composite(out: &mut [u8], at: usize, texts: Texts) -> usize
+    requires { (is_valid (identity_by texts) ≡ true)
+        × (at + length (text_item (composite_text (identity_by texts))) ≤ length out.old) }
     ensures { Puts out.old at
-        (text_item (composite_text (identity ulid.now bucket.now object.now))) out.new result }
+        (text_item (composite_text (identity_by texts.entry))) out.new result }
 {
-    let n = 28 + bucket.len() + object.len();
+    let n = 28 + texts.bucket.len() + texts.object.len();
     let start = place(msgpack_heads::write_text_head(out, at, n as u32));
-    let _ = held_identifier::write_parts(out, start, ulid, bucket, object);
+    let _ = held_identifier::write_parts(out, start, texts.ulid, texts.bucket, texts.object);
     start + n
 }
 
-fn put_block_part(out: &mut [u8], at: usize, ulid: &[u8], bucket: &[u8], object: &[u8]) -> usize
-    requires { (is_valid (identity ulid.now bucket.now object.now) ≡ true)
-        × (at + length (block_part (identity ulid.now bucket.now object.now)) ≤ length out.old) }
-    ensures { Puts out.old at (block_part (identity ulid.now bucket.now object.now)) out.new result }
+fn put_block_part(out: &mut [u8], at: usize, texts: Texts) -> usize
+    requires { (is_valid (identity_by texts) ≡ true)
+        × (at + length (block_part (identity_by texts)) ≤ length out.old) }
+    ensures { Puts out.old at (block_part (identity_by texts.entry)) out.new result }
 {
     let start = put(out, at, &BLOCK_PART);
-    put_composite(out, start, ulid, bucket, object)
+    put_composite(out, start, texts)
 }
 
 // The key `e`, up to a primary part of n bytes.
@@ -234,23 +246,15 @@ fn put_part_header(out: &mut [u8], at: usize, n: usize) -> usize
 }
 
 // The value of a block whose primary part has so many bytes.
-fn put_block_value(
-    out: &mut [u8],
-    at: usize,
-    part: usize,
-    ulid: &[u8],
-    bucket: &[u8],
-    object: &[u8],
-    content: &[u8],
-) -> usize
-    requires { (is_valid (identity ulid.now bucket.now object.now) ≡ true)
-        × (part ≡ length (block_part (identity ulid.now bucket.now object.now))) × (part ≤ pack_limit)
-        × (at + length (block_value (identity ulid.now bucket.now object.now) content.now) ≤ length out.old) }
+fn put_block_value(out: &mut [u8], at: usize, part: usize, texts: Texts, content: &[u8]) -> usize
+    requires { (is_valid (identity_by texts) ≡ true)
+        × (part ≡ length (block_part (identity_by texts))) × (part ≤ pack_limit)
+        × (at + length (block_value (identity_by texts) content.now) ≤ length out.old) }
     ensures { Puts out.old at
-        (block_value (identity ulid.now bucket.now object.now) content.now) out.new result }
+        (block_value (identity_by texts.entry) content.now) out.new result }
 {
     let start = put_block_header(out, at, content.len(), part);
-    let end = put_block_part(out, start, ulid, bucket, object);
+    let end = put_block_part(out, start, texts);
     put(out, end, content)
 }
 
@@ -263,80 +267,51 @@ fn put_part_value(out: &mut [u8], at: usize, part: &[u8]) -> usize
 }
 
 // The head of a map of so many pairs, and its first three: those of an identifier.
-fn put_identity(
-    out: &mut [u8],
-    at: usize,
-    pairs: u32,
-    ulid: &[u8],
-    bucket: &[u8],
-    object: &[u8],
-) -> usize
-    requires { (is_valid (identity ulid.now bucket.now object.now) ≡ true)
-        × (at + length (map_head pairs ++ flatten (identity_pairs (identity ulid.now bucket.now object.now))) ≤ length out.old) }
+fn put_identity(out: &mut [u8], at: usize, pairs: u32, texts: Texts) -> usize
+    requires { (is_valid (identity_by texts) ≡ true)
+        × (at + length (map_head pairs ++ flatten (identity_pairs (identity_by texts))) ≤ length out.old) }
     ensures { Puts out.old at
-        (map_head pairs ++ flatten (identity_pairs (identity ulid.now bucket.now object.now))) out.new result }
+        (map_head pairs ++ flatten (identity_pairs (identity_by texts.entry))) out.new result }
 {
     let b = place(msgpack_heads::write_map_head(out, at, pairs));
-    let o = put_pair(out, b, &primary::BUCKET, bucket);
-    let v = put_pair(out, o, &primary::OBJECT, object);
-    put_pair(out, v, &primary::ULID, ulid)
+    let o = put_pair(out, b, &primary::BUCKET, texts.bucket);
+    let v = put_pair(out, o, &primary::OBJECT, texts.object);
+    put_pair(out, v, &primary::ULID, texts.ulid)
 }
 
-fn put_version_part(
-    out: &mut [u8],
-    at: usize,
-    ulid: &[u8],
-    bucket: &[u8],
-    object: &[u8],
-    marker: bool,
-) -> usize
-    requires { (is_valid (identity ulid.now bucket.now object.now) ≡ true)
-        × (at + length (version_part (identity ulid.now bucket.now object.now) marker) ≤ length out.old) }
+fn put_version_part(out: &mut [u8], at: usize, texts: Texts, marker: bool) -> usize
+    requires { (is_valid (identity_by texts) ≡ true)
+        × (at + length (version_part (identity_by texts) marker) ≤ length out.old) }
     ensures { Puts out.old at
-        (version_part (identity ulid.now bucket.now object.now) marker) out.new result }
+        (version_part (identity_by texts.entry) marker) out.new result }
 {
     if !marker {
-        return put_identity(out, at, 3, ulid, bucket, object);
+        return put_identity(out, at, 3, texts);
     }
-    let key = put_identity(out, at, 4, ulid, bucket, object);
+    let key = put_identity(out, at, 4, texts);
     put(out, key, &MARKER)
 }
 
-fn put_delete_part(
-    out: &mut [u8],
-    at: usize,
-    ulid: &[u8],
-    bucket: &[u8],
-    object: &[u8],
-    deleteid: &[u8],
-) -> usize
-    requires { (is_valid (identity ulid.now bucket.now object.now) ≡ true) × (is_ulid deleteid.now ≡ true)
-        × (at + length (delete_part (identity ulid.now bucket.now object.now) deleteid.now) ≤ length out.old) }
+fn put_delete_part(out: &mut [u8], at: usize, texts: Texts, deleteid: &[u8]) -> usize
+    requires { (is_valid (identity_by texts) ≡ true) × (is_ulid deleteid.now ≡ true)
+        × (at + length (delete_part (identity_by texts) deleteid.now) ≤ length out.old) }
     ensures { Puts out.old at
-        (delete_part (identity ulid.now bucket.now object.now) deleteid.now) out.new result }
+        (delete_part (identity_by texts.entry) deleteid.now) out.new result }
 {
-    let key = put_identity(out, at, 4, ulid, bucket, object);
+    let key = put_identity(out, at, 4, texts);
     put_pair(out, key, &primary::DELETE_ID, deleteid)
 }
 
 // The value of a made version delete whose primary part has so many bytes.
-fn put_delete_value(
-    out: &mut [u8],
-    at: usize,
-    part: usize,
-    ulid: &[u8],
-    bucket: &[u8],
-    object: &[u8],
-    deleteid: &[u8],
-) -> usize
-    requires { (is_valid (identity ulid.now bucket.now object.now) ≡ true) × (is_ulid deleteid.now ≡ true)
-        × (part ≡ length (delete_part (identity ulid.now bucket.now object.now) deleteid.now)) × (part ≤ pack_limit)
-        × (at + length (part_value (delete_part (identity ulid.now bucket.now object.now) deleteid.now)) ≤ length out.old) }
+fn put_delete_value(out: &mut [u8], at: usize, part: usize, texts: Texts, deleteid: &[u8]) -> usize
+    requires { (is_valid (identity_by texts) ≡ true) × (is_ulid deleteid.now ≡ true)
+        × (part ≡ length (delete_part (identity_by texts) deleteid.now)) × (part ≤ pack_limit)
+        × (at + length (part_value (delete_part (identity_by texts) deleteid.now)) ≤ length out.old) }
     ensures { Puts out.old at
-        (part_value (delete_part (identity ulid.now bucket.now object.now) deleteid.now)) out.new result }
+        (part_value (delete_part (identity_by texts.entry) deleteid.now)) out.new result }
 {
     let start = put_part_header(out, at, part);
-    put_delete_part(out, start, ulid, bucket, object, deleteid)
+    put_delete_part(out, start, texts, deleteid)
 }
 
 fn put_number(out: &mut [u8], at: usize, width: usize, n: u64) -> usize
@@ -379,206 +354,165 @@ fn put_header(out: &mut [u8], at: usize, tag: u16, value: usize)
 
 // ---- records that are admitted
 
-// What a call answers for a value of so many bytes. Nothing is added before it is compared.
-fn room(len: usize, used: usize, value: usize) -> Written
+// What a call answers for a value of so many bytes: how many the pack then has, or that nothing is
+// written. Nothing is added before it is compared.
+fn room(len: usize, used: usize, value: usize) -> Result<usize, Unwritten>
     ensures { answer_of result ≡ counted pack_limit len used (32 + value) }
 {
     if RecordHeader::LIMIT - RecordHeader::LENGTH < value {
-        return Written::Inadmissible;
+        return Err(Unwritten::Inadmissible);
     }
     let n = RecordHeader::LENGTH + value;
     if RecordHeader::LIMIT - n < used {
-        return Written::Inadmissible;
+        return Err(Unwritten::Inadmissible);
     }
     let end = used + n;
     if len < end {
-        return Written::Short;
+        return Err(Unwritten::NoRoom);
     }
-    Written::Count(end)
+    Ok(end)
 }
 
 fn store_block(
     buf: &mut [u8],
     used: usize,
-    ulid: &[u8],
-    bucket: &[u8],
-    object: &[u8],
+    texts: Texts,
     content: &[u8],
-) -> Written
-    requires { is_valid (identity ulid.now bucket.now object.now) ≡ true }
+) -> Result<usize, Unwritten>
+    requires { is_valid (identity_by texts) ≡ true }
     ensures { Stores used (layout
-        (record_of block_tag (block_value (identity ulid.now bucket.now object.now) content.now)))
+        (record_of block_tag (block_value (identity_by texts.entry) content.now)))
         buf.old result buf.new }
 {
     if RecordHeader::LIMIT < content.len() {
-        return Written::Inadmissible;
+        return Err(Unwritten::Inadmissible);
     }
-    let part = block_part_size(ulid, bucket, object);
+    let part = block_part_size(texts);
     let value = block_value_size(part, content.len());
-    match room(buf.len(), used, value) {
-        Written::Count(end) => {
-            let start = used + RecordHeader::LENGTH;
-            let _ = put_block_value(buf, start, part, ulid, bucket, object, content);
-            put_header(buf, used, records::BLOCK, value);
-            Written::Count(end)
-        }
-        Written::Short => Written::Short,
-        Written::Inadmissible => Written::Inadmissible,
-    }
+    let end = room(buf.len(), used, value)?;
+    let start = used + RecordHeader::LENGTH;
+    let _ = put_block_value(buf, start, part, texts, content);
+    put_header(buf, used, records::BLOCK, value);
+    Ok(end)
 }
 
-fn store_part(buf: &mut [u8], used: usize, tag: u16, part: &[u8]) -> Written
+fn store_part(buf: &mut [u8], used: usize, tag: u16, part: &[u8]) -> Result<usize, Unwritten>
     ensures { Stores used (layout (record_of tag (part_value part.now))) buf.old result buf.new }
 {
     if RecordHeader::LIMIT < part.len() {
-        return Written::Inadmissible;
+        return Err(Unwritten::Inadmissible);
     }
     let value = part_value_size(part.len());
-    match room(buf.len(), used, value) {
-        Written::Count(end) => {
-            let _ = put_part_value(buf, used + RecordHeader::LENGTH, part);
-            put_header(buf, used, tag, value);
-            Written::Count(end)
-        }
-        Written::Short => Written::Short,
-        Written::Inadmissible => Written::Inadmissible,
-    }
+    let end = room(buf.len(), used, value)?;
+    let _ = put_part_value(buf, used + RecordHeader::LENGTH, part);
+    put_header(buf, used, tag, value);
+    Ok(end)
 }
 
 fn store_deletion(
     buf: &mut [u8],
     used: usize,
-    ulid: &[u8],
-    bucket: &[u8],
-    object: &[u8],
+    texts: Texts,
     deleteid: &[u8],
-) -> Written
-    requires { (is_valid (identity ulid.now bucket.now object.now) ≡ true) × (is_ulid deleteid.now ≡ true) }
+) -> Result<usize, Unwritten>
+    requires { (is_valid (identity_by texts) ≡ true) × (is_ulid deleteid.now ≡ true) }
     ensures { Stores used (layout
         (record_of version_delete_tag (part_value
-        (delete_part (identity ulid.now bucket.now object.now) deleteid.now))))
+        (delete_part (identity_by texts.entry) deleteid.now))))
         buf.old result buf.new }
 {
-    let part = delete_part_size(ulid, bucket, object, deleteid);
+    let part = delete_part_size(texts, deleteid);
     let value = part_value_size(part);
-    match room(buf.len(), used, value) {
-        Written::Count(end) => {
-            let start = used + RecordHeader::LENGTH;
-            let _ = put_delete_value(buf, start, part, ulid, bucket, object, deleteid);
-            put_header(buf, used, records::VERSION_DELETE, value);
-            Written::Count(end)
-        }
-        Written::Short => Written::Short,
-        Written::Inadmissible => Written::Inadmissible,
-    }
+    let end = room(buf.len(), used, value)?;
+    let start = used + RecordHeader::LENGTH;
+    let _ = put_delete_value(buf, start, part, texts, deleteid);
+    put_header(buf, used, records::VERSION_DELETE, value);
+    Ok(end)
 }
 
 // A version's primary part, at the front of a buffer where it fits.
-fn store_version_part(
-    out: &mut [u8],
-    ulid: &[u8],
-    bucket: &[u8],
-    object: &[u8],
-    marker: bool,
-) -> Written
-    requires { is_valid (identity ulid.now bucket.now object.now) ≡ true }
-    ensures { StoresPart (version_part (identity ulid.now bucket.now object.now) marker)
+fn store_version_part(out: &mut [u8], texts: Texts, marker: bool) -> Result<usize, Unwritten>
+    requires { is_valid (identity_by texts) ≡ true }
+    ensures { StoresPart (version_part (identity_by texts.entry) marker)
         out.old result out.new }
 {
-    let n = version_part_size(ulid, bucket, object, marker);
+    let n = version_part_size(texts, marker);
     if out.len() < n {
-        return Written::Short;
+        return Err(Unwritten::NoRoom);
     }
-    let _ = put_version_part(out, 0, ulid, bucket, object, marker);
-    Written::Count(n)
+    let _ = put_version_part(out, 0, texts, marker);
+    Ok(n)
 }
 
-// ---- one record a call
+// ---- one record a call: how many bytes the pack now has, or why nothing was written
 
 // A block.
-pub fn write_block(buf: &mut [u8], used: usize, id: Identifier, content: &[u8]) -> Written
+pub fn write_block(
+    buf: &mut [u8],
+    used: usize,
+    id: Identifier,
+    content: &[u8],
+) -> Result<usize, Unwritten>
     ensures answer { answer_of result ≡ written pack_limit (length buf.old) used (of_identity (λ i. block i content.now) (named id)) }
     ensures buffer { buf.new ≡ buffer_after pack_limit used (of_identity (λ i. block i content.now) (named id)) buf.old }
 {
-    if !held_identifier::is_admitted(id) {
-        return Written::Inadmissible;
-    }
-    let n = id.bucketlen;
-    let m = id.objectlen;
-    let ulid = id.ulid;
-    let bucket = id.bucket;
-    let object = id.object;
-    store_block(buf, used, &ulid, &bucket[..n], &object[..m], content)
+    let texts = admitted_texts(&id)?;
+    store_block(buf, used, texts, content)
 }
 
 // A version, from its primary part.
-pub fn write_version(buf: &mut [u8], used: usize, part: &[u8]) -> Written
-    ensures answer { answer_of result ≡ written pack_limit (length buf.old) used (some (version part.now)) }
-    ensures buffer { buf.new ≡ buffer_after pack_limit used (some (version part.now)) buf.old }
+pub fn write_version(buf: &mut [u8], used: usize, part: &[u8]) -> Result<usize, Unwritten>
+    ensures answer { answer_of result ≡ written pack_limit (length buf.old) used (Some (version part.now)) }
+    ensures buffer { buf.new ≡ buffer_after pack_limit used (Some (version part.now)) buf.old }
 {
-    match primary::read_version(part) {
-        VersionRead::Read(_, _) => store_part(buf, used, records::VERSION, part),
-        VersionRead::Fault(_) => Written::Inadmissible,
-    }
+    primary::read_version(part).map_err(|_| Unwritten::Inadmissible)?;
+    store_part(buf, used, records::VERSION, part)
 }
 
 // A version delete, from its primary part.
-pub fn write_delete(buf: &mut [u8], used: usize, part: &[u8]) -> Written
-    ensures answer { answer_of result ≡ written pack_limit (length buf.old) used (some (version_delete part.now)) }
-    ensures buffer { buf.new ≡ buffer_after pack_limit used (some (version_delete part.now)) buf.old }
+pub fn write_delete(buf: &mut [u8], used: usize, part: &[u8]) -> Result<usize, Unwritten>
+    ensures answer { answer_of result ≡ written pack_limit (length buf.old) used (Some (version_delete part.now)) }
+    ensures buffer { buf.new ≡ buffer_after pack_limit used (Some (version_delete part.now)) buf.old }
 {
-    match primary::read_delete(part) {
-        DeleteRead::Read(_, _) => store_part(buf, used, records::VERSION_DELETE, part),
-        DeleteRead::Fault(_) => Written::Inadmissible,
-    }
+    primary::read_delete(part).map_err(|_| Unwritten::Inadmissible)?;
+    store_part(buf, used, records::VERSION_DELETE, part)
 }
 
 // A pack list, from its primary part.
-pub fn write_pack_list(buf: &mut [u8], used: usize, part: &[u8]) -> Written
-    ensures answer { answer_of result ≡ written pack_limit (length buf.old) used (some (pack_list part.now)) }
-    ensures buffer { buf.new ≡ buffer_after pack_limit used (some (pack_list part.now)) buf.old }
+pub fn write_pack_list(buf: &mut [u8], used: usize, part: &[u8]) -> Result<usize, Unwritten>
+    ensures answer { answer_of result ≡ written pack_limit (length buf.old) used (Some (pack_list part.now)) }
+    ensures buffer { buf.new ≡ buffer_after pack_limit used (Some (pack_list part.now)) buf.old }
 {
-    match pack_list::read(part) {
-        Reading::List(_) => store_part(buf, used, records::PACK_LIST, part),
-        Reading::Refused(_) => Written::Inadmissible,
-    }
+    pack_list::read(part).map_err(|_| Unwritten::Inadmissible)?;
+    store_part(buf, used, records::PACK_LIST, part)
 }
 
 // A version delete, made from the identifier of the version that goes and a delete ULID.
-pub fn write_delete_of(buf: &mut [u8], used: usize, id: Identifier, deleteid: &[u8]) -> Written
+pub fn write_delete_of(
+    buf: &mut [u8],
+    used: usize,
+    id: Identifier,
+    deleteid: &[u8],
+) -> Result<usize, Unwritten>
     ensures answer { answer_of result ≡ written pack_limit (length buf.old) used
         (of_identity (λ i. deletion i deleteid.now) (named id)) }
     ensures buffer { buf.new ≡ buffer_after pack_limit used
         (of_identity (λ i. deletion i deleteid.now) (named id)) buf.old }
 {
-    if !held_identifier::is_admitted(id) {
-        return Written::Inadmissible;
-    }
+    let texts = admitted_texts(&id)?;
     if !identifier::is_ulid(deleteid) {
-        return Written::Inadmissible;
+        return Err(Unwritten::Inadmissible);
     }
-    let n = id.bucketlen;
-    let m = id.objectlen;
-    let ulid = id.ulid;
-    let bucket = id.bucket;
-    let object = id.object;
-    store_deletion(buf, used, &ulid, &bucket[..n], &object[..m], deleteid)
+    store_deletion(buf, used, texts, deleteid)
 }
 
-// ---- a primary part alone, for the call that writes its record
+// ---- a primary part alone, for the call that writes its record: how many bytes it has
 
 // A version's, made from its identifier and whether it is a delete marker, at the front of a buffer.
-pub fn write_version_part(out: &mut [u8], id: Identifier, marker: bool) -> Written
+pub fn write_version_part(out: &mut [u8], id: Identifier, marker: bool) -> Result<usize, Unwritten>
     ensures answer { answer_of result ≡ part_written (length out.old) (version_part_of marker (named id)) }
     ensures buffer { out.new ≡ part_after (version_part_of marker (named id)) out.old }
 {
-    if !held_identifier::is_admitted(id) {
-        return Written::Inadmissible;
-    }
-    let n = id.bucketlen;
-    let m = id.objectlen;
-    let ulid = id.ulid;
-    let bucket = id.bucket;
-    let object = id.object;
-    store_version_part(out, &ulid, &bucket[..n], &object[..m], marker)
+    let texts = admitted_texts(&id)?;
+    store_version_part(out, texts, marker)
 }

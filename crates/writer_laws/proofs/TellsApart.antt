@@ -1,11 +1,12 @@
 -- The relations that the read-back is said with tell things apart: what differs in one respect alone is not related.
 use Rattle.std.specs.Prelude.{ℕ, ◌≡◌, take, drop}
 use mathlib.Core.List.{List}
-use Rattle.std.proofs.Math.Option.{some}
+use Rattle.std.specs.Prelude.{Some, Result}
 use Rattle.std.proofs.Common.{sym, subst, ◌∙◌}
 use Rattle.refusals.specs.Limit.{pack_limit}
 use Rattle.pack.specs.Reading.{whole, reading}
-use Rattle.records.specs.declared.AtPlace as declared-place
+use Rattle.records.specs.declared.Placed.{Placed}
+use Rattle.records.specs.declared.PlaceFault.{PlaceFault}
 use Rattle.writer.specs.Writing.{Item}
 use Rattle.writer_laws.specs.Calls.{all_written, write_all}
 use Rattle.writer_laws.specs.ReadBack.{AllMean, ReadsBack}
@@ -32,8 +33,8 @@ module _ (limit : ℕ) (items : List Item) (buf : List ℕ) where
 
 -- ---- a record added
 
-module _ (before front : List ℕ) (p : declared-place.AtPlace) where
-  module _ (item : Item) (x : IsAdded (some item) before front p) where
+module _ (before front : List ℕ) (p : Result Placed PlaceFault) where
+  module _ (item : Item) (x : IsAdded (Some item) before front p) where
     the_item : x.item ≡ item
     the_item = let e = x.is_asked_lem in cc
 

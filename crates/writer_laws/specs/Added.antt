@@ -4,7 +4,7 @@ use Rattle.std.specs.Prelude.{ℕ, ◌+◌, ◌^◌, ◌≤◌, ◌<◌, ◌≡�
 use mathlib.Core.List.Memᴰ
 use mathlib.Core.List.{List, [], ◌∷◌, ◌++◌, flatten, append_assoc, append-nil, Memᴰ}
 use Rattle.std.proofs.Math.Logic.{⊎_elim}
-use Rattle.std.proofs.Math.Option.{Option, some}
+use Rattle.std.specs.Prelude.{Option, Some, Result, Ok}
 use Rattle.std.proofs.Common.{sym, subst, ◌∙◌, zero-add, arith, length-take-le, drop-drop}
 use Rattle.std.proofs.Math.Path.{ap}
 use Rattle.std.proofs.Math.ListN.{length-append}
@@ -28,8 +28,8 @@ use Rattle.records.specs.Record.{record_at}
 use Rattle.records.specs.Laws.{tag_and_value}
 use Rattle.records.specs.Answers.{record_in}
 use Rattle.records.specs.declared.Record as declared-record
-use Rattle.records.specs.declared.AtPlace as declared-place
-use Rattle.records.specs.declared.AtPlace.TheVariants as place-answer
+use Rattle.records.specs.declared.Placed.{Placed}
+use Rattle.records.specs.declared.PlaceFault.{PlaceFault}
 use Rattle.records_model.specs.Record as held
 use Rattle.writer.specs.Values.{text_item, pair, map_item, block_header, block_part, block_value, part_header, part_value, identity_pairs, delete_part}
 use Rattle.writer.specs.Writing.{Item, block, version, version_delete, pack_list, deletion, value_of, item_bytes, written, buffer_after}
@@ -152,23 +152,23 @@ pub record Extends (limit : ℕ) (before : List ℕ) (item : Item) (extended : L
 
 -- what is told of the pack s is the item: the value's bytes; and, at the places of the pack that are told, primary part, data, identifier,
 -- and delete flag or delete identifier
-pub record Tells (s : List ℕ) (item : Item) (p : declared-place.AtPlace) : Type 0 where
+pub record Tells (s : List ℕ) (item : Item) (p : Result Placed PlaceFault) : Type 0 where
   pub found : declared-record.Record
   pub value : Place
-  pub is : p ≡ place-answer.Record found value
+  pub is : p ≡ Ok (record { «record» = found; value = value })
   pub value_is : part_at s value ≡ value_of item
   pub holds : held.record_in s (granted (record_in s found)) ≡ held_of item
 
 -- the record that was asked for is read in the front, and the records before it, where they were accepted, read as they did
-pub record IsAdded (asked : Option Item) (before front : List ℕ) (p : declared-place.AtPlace) : Type 0 where
+pub record IsAdded (asked : Option Item) (before front : List ℕ) (p : Result Placed PlaceFault) : Type 0 where
   pub item : Item
-  pub is_asked_lem : asked ≡ some item
+  pub is_asked_lem : asked ≡ Some item
   pub tells : Tells front item p
   pub extends : (reading pack_limit before).ending ≡ whole → Extends pack_limit before item front
 
-module _ (limit : ℕ) (small : limit < 2 ^ 32) (item : Item) (used n : ℕ) (buf : List ℕ) (wrote : written limit (length buf) used (some item) ≡ granted n) where
+module _ (limit : ℕ) (small : limit < 2 ^ 32) (item : Item) (used n : ℕ) (buf : List ℕ) (wrote : written limit (length buf) used (Some item) ≡ granted n) where
   -- the record stands directly after the pack before, which is as long as was told
-  pub record_appended : take n (buffer_after limit used (some item) buf) ≡ take used buf ++ item_bytes item
+  pub record_appended : take n (buffer_after limit used (Some item) buf) ≡ take used buf ++ item_bytes item
   unfolding buffer_after
   record_appended =
       let w = (written_exactly limit (length buf) used item n).0 wrote in
@@ -184,7 +184,7 @@ module _ (limit : ℕ) (small : limit < 2 ^ 32) (item : Item) (used n : ℕ) (bu
   value_within = omega (arith, total, length-append (take used buf) (item_bytes item), length_layout (record_for item))
 
   -- the value is what stands behind the header, to the end of the front
-  pub value_last : drop (used + 32) (take n (buffer_after limit used (some item) buf)) ≡ value_of item
+  pub value_last : drop (used + 32) (take n (buffer_after limit used (Some item) buf)) ≡ value_of item
   unfolding layout
   value_last =
       let r = record_for item in
@@ -192,9 +192,9 @@ module _ (limit : ℕ) (small : limit < 2 ^ 32) (item : Item) (used n : ℕ) (bu
       ∙ ap (drop 32) (drop_at (take used buf) (item_bytes item) used (length-take-le used buf told_inside)) ∙ drop_at (head r) r.value 32 (length_head r))
 
   -- what holds of every slice: it is bytes
-  module _ (all : AllBytes (buffer_after limit used (some item) buf)) where
+  module _ (all : AllBytes (buffer_after limit used (Some item) buf)) where
     both : AllBytes (take used buf ++ item_bytes item)
-    both = subst AllBytes record_appended (take_bytes n (buffer_after limit used (some item) buf) all)
+    both = subst AllBytes record_appended (take_bytes n (buffer_after limit used (Some item) buf) all)
 
     pub before_bytes : AllBytes (take used buf)
     before_bytes = front_bytes (take used buf) (item_bytes item) both
@@ -206,7 +206,7 @@ module _ (limit : ℕ) (small : limit < 2 ^ 32) (item : Item) (used n : ℕ) (bu
     pub item_fits : Fits (record_for item)
     item_fits = fits limit small item item_handed ((written_exactly limit (length buf) used item n).0 wrote).0 value_within
 
-    pub added_extends : (reading limit (take used buf)).ending ≡ whole → Extends limit (take used buf) item (take n (buffer_after limit used (some item) buf))
+    pub added_extends : (reading limit (take used buf)).ending ≡ whole → Extends limit (take used buf) item (take n (buffer_after limit used (Some item) buf))
     unfolding layouts entries_of
     added_extends accepted = rw record_appended (record {
       reads = behind limit (take used buf) (item_bytes item) before_bytes total accepted

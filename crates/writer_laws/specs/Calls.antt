@@ -2,7 +2,7 @@
 use Prim.Native.Nat.{ℕ, ◌+◌, ◌≤◌}
 use Rattle.std.specs.Prelude.{true, ◌≡◌}
 use mathlib.Core.List.{List, [], ◌∷◌, ◌++◌, map}
-use Rattle.std.proofs.Math.Option.{some}
+use Rattle.std.specs.Prelude.{Some}
 use Rattle.std.proofs.Common.{◌∙◌, add-zero}
 use native.Mathlib.Omega.{arith}
 use borrow.Author.Tests.{le-leb}
@@ -23,8 +23,8 @@ after (refused n) next = stopped n
 
 unfoldable pub write_all : ℕ → List Item → ℕ → List ℕ → Ending
 write_all limit [] used buf = all_written used buf
-write_all limit (item ∷ items) used buf = after (written limit (length buf) used (some item))
-    (λ n. write_all limit items n (buffer_after limit used (some item) buf))
+write_all limit (item ∷ items) used buf = after (written limit (length buf) used (Some item))
+    (λ n. write_all limit items n (buffer_after limit used (Some item) buf))
 
 abbrev pub AllAdmitted : List Item → Type 0
 AllAdmitted [] = Unit {0}
@@ -39,8 +39,8 @@ records_of items = map record_for items
 module _ (limit : ℕ) where
   one_call : (item : Item) (used : ℕ) (buf : List ℕ) → admitted item ≡ true → used + length (item_bytes item) ≤ limit
       → used + length (item_bytes item) ≤ length buf
-      → (written limit (length buf) used (some item) ≡ granted (used + length (item_bytes item)))
-      × (buffer_after limit used (some item) buf ≡ overwritten buf used (item_bytes item))
+      → (written limit (length buf) used (Some item) ≡ granted (used + length (item_bytes item)))
+      × (buffer_after limit used (Some item) buf ≡ overwritten buf used (item_bytes item))
   unfolding written counted buffer_after
   one_call item used buf a l m = (rw (a, le-leb _ _ l, le-leb _ _ m), rw (a, le-leb _ _ l, le-leb _ _ m))
 

@@ -3,7 +3,7 @@
 use Rattle.std.specs.Prelude.{ℕ, ◌+◌, ◌≤◌, ◌<◌, Bool, cond, ◌↔◌, ◌⊎◌, length}
 use Rattle.std.proofs.Math.Bool.{true, false}
 use Rattle.std.proofs.Math.Logic.{inl, inr, ⊎_elim}
-use Rattle.std.proofs.Math.Option.{some}
+use Rattle.std.specs.Prelude.{Some}
 use Rattle.std.proofs.Math.Path.{◌≡◌, refl}
 use Rattle.std.proofs.Common.{ap, arith}
 use borrow.Author.Tests.{le-leb, lt-leb, leb-true, leb-false}
@@ -24,7 +24,7 @@ module _ (limit room used : ℕ) (item : Item) where
     no_room : admitted item ≡ true → total ≤ limit → room < total → Tested (refused 19)
     written_out : admitted item ≡ true → total ≤ limit → total ≤ room → Tested (granted total)
 
-  tested : Tested (written limit room used (some item))
+  tested : Tested (written limit room used (Some item))
   unfolding written counted
   tested = by_admission (admitted item) refl
     where
@@ -41,7 +41,7 @@ module _ (limit room used : ℕ) (item : Item) where
       by_admission true e = by_limit (leb total limit) refl e
       by_admission false e = not_admitted e
 
-  pub refused_20 : written limit room used (some item) ≡ refused 20 ↔ ((admitted item ≡ false) ⊎ (limit < total))
+  pub refused_20 : written limit room used (Some item) ≡ refused 20 ↔ ((admitted item ≡ false) ⊎ (limit < total))
   unfolding written counted
   refused_20 = (λ e. why tested e, ⊎_elim (λ a. rw a) (λ l. above (admitted item) l))
     where
@@ -56,7 +56,7 @@ module _ (limit room used : ℕ) (item : Item) where
       above true l = rw (lt-leb _ _ l)
       above false l = refl
 
-  pub refused_19 : written limit room used (some item) ≡ refused 19 ↔ ((admitted item ≡ true) × (total ≤ limit) × (room < total))
+  pub refused_19 : written limit room used (Some item) ≡ refused 19 ↔ ((admitted item ≡ true) × (total ≤ limit) × (room < total))
   unfolding written counted
   refused_19 = (λ e. why tested e, λ h. rw (h.0, le-leb _ _ h.1, lt-leb _ _ h.2))
     where
@@ -66,7 +66,7 @@ module _ (limit room used : ℕ) (item : Item) where
       why (no_room a l m) e = (a, l, m)
       why (written_out a l m) e = absurd_numbers (cc)
 
-  pub written_exactly : (n : ℕ) → written limit room used (some item) ≡ granted n ↔ ((admitted item ≡ true) × (total ≤ limit) × (total ≤ room) × (total ≡ n))
+  pub written_exactly : (n : ℕ) → written limit room used (Some item) ≡ granted n ↔ ((admitted item ≡ true) × (total ≤ limit) × (total ≤ room) × (total ≡ n))
   unfolding written counted
   written_exactly n = (λ e. why tested e, λ h. rw (h.0, le-leb _ _ h.1, le-leb _ _ h.2) (ap granted h.3))
     where

@@ -1,7 +1,7 @@
 -- The relations that the read-back is said with tell things apart: what differs in one respect alone is not related.
 use Rattle.std.specs.Prelude.{ℕ, ◌≡◌, length}
 use mathlib.Core.List.{List, [], ◌∷◌, ◌++◌, Memᴰ}
-use Rattle.std.proofs.Math.Option.{none}
+use Rattle.std.specs.Prelude.{None, Result, Ok}
 use Rattle.std.proofs.Common.{sym, ap, ◌∙◌}
 use Rattle.slices.specs.Logic.{absurd_numbers}
 use Rattle.slices.specs.Places.{part_at}
@@ -13,8 +13,8 @@ use Rattle.pack.specs.Acceptance.{entry_of}
 use Rattle.records.specs.Record.{Record, there, record_at}
 use Rattle.records.specs.Answers as told
 use Rattle.records.specs.declared.Record as declared-record
-use Rattle.records.specs.declared.AtPlace as declared-place
-use Rattle.records.specs.declared.AtPlace.TheVariants as place-answer
+use Rattle.records.specs.declared.Placed.{Placed}
+use Rattle.records.specs.declared.PlaceFault.{PlaceFault}
 use Rattle.records_model.specs.Record.{record_in}
 use Rattle.writer.specs.Writing.{Item, tag_of, value_of}
 use Rattle.writer_laws.specs.Meaning.{held_of}
@@ -51,16 +51,19 @@ module _ (limit : ℕ) (items : List Item) (buf : List ℕ) where
 -- ---- a record added
 
 module _ (s : List ℕ) (item : Item) where
-  pub no_record_is_told : (p : declared-place.AtPlace) → ((found : declared-record.Record) (value : Place) → p ≡ place-answer.Record found value → ⊥)
+  pub no_record_is_told : (p : Result Placed PlaceFault) → ((found : declared-record.Record) (value : Place) → p ≡ Ok (record { «record» = found; value = value }) → ⊥)
       → Tells s item p → ⊥
   no_record_is_told p d x = d x.found x.value x.is
 
-  module _ (found : declared-record.Record) (value : Place) (x : Tells s item (place-answer.Record found value)) where
+  module _ (found : declared-record.Record) (value : Place) (x : Tells s item (Ok (record { «record» = found; value = value }))) where
+    same_place : ◌≡◌ {A = Placed} (record { «record» = found; value = value }) (record { «record» = x.found; value = x.value })
+    same_place = let is = x.is in cc
+
     pub told_values_differ : (part_at s value ≡ value_of item → ⊥) → ⊥
-    told_values_differ d = let is = x.is in let v : value ≡ x.value = cc in d (rw v x.value_is)
+    told_values_differ d = d (rw (ap (λ (p : Placed). p.value) same_place) x.value_is)
 
     pub told_meanings_differ : (record_in s (granted (told.record_in s found)) ≡ held_of item → ⊥) → ⊥
-    told_meanings_differ d = let is = x.is in let f : found ≡ x.found = cc in d (rw f x.holds)
+    told_meanings_differ d = d (rw (ap (λ (p : Placed). p.«record») same_place) x.holds)
 
 module _ (limit : ℕ) (before : List ℕ) (item : Item) (extended : List ℕ) (x : Extends limit before item extended) where
   pub extended_is_refused : ((reading limit extended).ending ≡ whole → ⊥) → ⊥
@@ -73,6 +76,6 @@ module _ (limit : ℕ) (before : List ℕ) (item : Item) (extended : List ℕ) (
       → (record_at limit extended e.start ≡ record_at limit before e.start → ⊥) → ⊥
   records_before_differ e m d = d (x.same e m)
 
-module _ (before front : List ℕ) (p : declared-place.AtPlace) where
-  pub nothing_is_asked : IsAdded none before front p → ⊥
+module _ (before front : List ℕ) (p : Result Placed PlaceFault) where
+  pub nothing_is_asked : IsAdded None before front p → ⊥
   nothing_is_asked x = let e = x.is_asked_lem in absurd_numbers (cc)

@@ -1,7 +1,7 @@
 -- A version's primary part that is made from an identifier reads as that identifier and delete flag; and a version that is written with it is
 -- admitted, and reads back so.
 use Rattle.std.specs.Prelude.{ℕ, Bool, true, false, cond, List, ◌≡◌, refl, leb, length, take}
-use Rattle.std.proofs.Math.Option.{Option, none, some}
+use Rattle.std.specs.Prelude.{Option, None, Some}
 use Rattle.std.proofs.Common.{ap, arith, leb-true}
 use Rattle.slices.specs.Bytes.{AllBytes}
 use Rattle.slices.specs.Logic.{absurd_numbers}
@@ -31,13 +31,13 @@ module _ (i : Identity) (marker : Bool) (rules : is_valid i ≡ true) (bytes : A
 
   -- a version with this part is refused for want of room or above the limit, and else written
   pub version_part_admitted : (limit room used : ℕ)
-      → written limit room used (some (version (version_part i marker))) ≡ counted limit room used (length (item_bytes (version (version_part i marker))))
+      → written limit room used (Some (version (version_part i marker))) ≡ counted limit room used (length (item_bytes (version (version_part i marker))))
   unfolding written
   version_part_admitted limit room used = rw (ap is_result version_part_reads)
 
 -- ---- the call, which leaves the part at the front of its buffer, where it tells a length
 
-part_front : (part out : List ℕ) (n : ℕ) → part_written (length out) (some part) ≡ granted n → take n (part_after (some part) out) ≡ part
+part_front : (part out : List ℕ) (n : ℕ) → part_written (length out) (Some part) ≡ granted n → take n (part_after (Some part) out) ≡ part
 unfolding part_written part_after
 part_front part out n e = by (leb (length part) (length out)) refl e
   where
@@ -47,12 +47,12 @@ part_front part out n e = by (leb (length part) (length out)) refl e
     by false f g = absurd_numbers (cc)
 
 pub version_part_written : (marker : Bool) (asked : Option Identity) (out : List ℕ) (n : ℕ) → part_written (length out) (version_part_of marker asked) ≡ granted n
-    → (i : Identity) × (asked ≡ some i) × (is_valid i ≡ true) × (take n (part_after (version_part_of marker asked) out) ≡ version_part i marker)
+    → (i : Identity) × (asked ≡ Some i) × (is_valid i ≡ true) × (take n (part_after (version_part_of marker asked) out) ≡ version_part i marker)
 unfolding part_written
-version_part_written marker none out n e = absurd_numbers (cc)
-version_part_written marker (some i) out n e = by (is_valid i) refl e
+version_part_written marker None out n e = absurd_numbers (cc)
+version_part_written marker (Some i) out n e = by (is_valid i) refl e
   where
-    by : (v : Bool) → is_valid i ≡ v → part_written (length out) (cond v (some (version_part i marker)) none) ≡ granted n
-        → (j : Identity) × (some i ≡ some j) × (is_valid j ≡ true) × (take n (part_after (cond v (some (version_part i marker)) none) out) ≡ version_part j marker)
+    by : (v : Bool) → is_valid i ≡ v → part_written (length out) (cond v (Some (version_part i marker)) None) ≡ granted n
+        → (j : Identity) × (Some i ≡ Some j) × (is_valid j ≡ true) × (take n (part_after (cond v (Some (version_part i marker)) None) out) ≡ version_part j marker)
     by true v f = (i, refl, v, part_front (version_part i marker) out n f)
     by false v f = absurd_numbers (cc)

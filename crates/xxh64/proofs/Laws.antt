@@ -1,38 +1,11 @@
 -- Laws on plain numbers that several proofs cite.
-use Rattle.std.proofs.Common.{◌≡◌, ℕ, zero, suc, ◌+◌, ◌-◌, ◌*◌, ◌/◌, ◌%◌, ◌^◌, ◌<◌, ◌≤◌, List, length, take, drop, sym, refl, ◌∙◌, subst, ap₂, lt_of_le_of_lt, add-zero, le_of_lt, add_assoc, mod-lt, mul_assoc, mul_comm, add-mul, add_comm, mul-le-mul_left, mul-lt-mul_of_pos_right, mul-suc, mul-add, mul_left_comm, add-one, arith, length-drop, length-take-le, take-take, pow_pos, pow-add, shr_lt}
-use mathlib.Core.Path.{subst⁻¹}
-use native.Mathlib.Nat.{add_left_comm, mul-mod_left}
+use Rattle.std.proofs.Common.{◌≡◌, ℕ, zero, suc, ◌+◌, ◌-◌, ◌*◌, ◌/◌, ◌%◌, ◌^◌, ◌<◌, ◌≤◌, List, length, take, drop, refl, ◌∙◌, subst, ap₂, add-zero, mod-lt, mul-le-mul_left, mul-suc, add-one, arith, length-drop, length-take-le, take-take, pow_pos, pow-add, shr_lt}
+use native.Mathlib.Nat.{mul-mod_left}
 use lib.Arith.{digits_lt}
-use lib.Pow.{split, shl-shr, mod-pow-add}
-use lib.Bits.{bit_and, and_mask}
+use lib.Pow.{shl-shr, mod-pow-add}
 use Rattle.endian.specs.Numbers.{little}
-use Rattle.xxh64.specs.Xxh64.{prime5, mul, lane, taken, round, converge, stripes, xxh64}
+use Rattle.xxh64.specs.Xxh64.{prime5, lane, taken, round, converge, stripes, xxh64}
 use Rattle.xxh64.specs.Parts.{fresh, finish, xxh64_finish}
-
--- ---- the product of two numbers of 64 bits, by halves
-
-pub product_lt : (k : ℕ) {a b : ℕ} → a < 2 ^ k → b < 2 ^ k → a * b < 2 ^ (k + k)
-product_lt k {a} {b} ha hb =
-    subst⁻¹ (λ (n : ℕ). a * b < n) (pow-add 2 k k)
-    (lt_of_le_of_lt (mul-le-mul_left a (le_of_lt hb)) (mul-lt-mul_of_pos_right ha (pow_pos k)))
-
--- what the code computes, with `low` for how the low half is taken
-abbrev by_halves : (low : ℕ → ℕ) (a b : ℕ) → ℕ
-by_halves low a b = ((a / 2 ^ 32 * low b + low a * (b / 2 ^ 32)) % 2 ^ 64 * 2 ^ 32 % 2 ^ 64 + low a * low b) % 2 ^ 64
-
-columns : (p a₀ a₁ b₀ b₁ : ℕ) → (a₁ * p + a₀) * (b₁ * p + b₀) ≡ a₁ * b₁ * (p * p) + (a₁ * b₀ + a₀ * b₁) * p + a₀ * b₀
-columns p a₀ a₁ b₀ b₁ = simp (mul-add, add-mul, mul_assoc, mul_comm, mul_left_comm, add_assoc, add_comm, add_left_comm) refl
-
--- the product of the high halves is a multiple of 2 ^ 64, and what the cross products lose is too
-reduce : (n x y z w : ℕ) → n ≡ z * 2 ^ 64 + (x + y) * 2 ^ 32 + w → ((x + y) % 2 ^ 64 * 2 ^ 32 % 2 ^ 64 + w) % 2 ^ 64 ≡ n % 2 ^ 64
-reduce n x y z w e = omega arith
-
-pub product_law : (a b : ℕ) → by_halves (λ n. bit_and n 0xffff_ffff) a b ≡ mul a b
-unfolding mul
-product_law a b =
-    (λ i. by_halves (λ n. and_mask n 32 i) a b)
-    ∙ reduce (a * b) (a / 2 ^ 32 * (b % 2 ^ 32)) (a % 2 ^ 32 * (b / 2 ^ 32)) (a / 2 ^ 32 * (b / 2 ^ 32)) (a % 2 ^ 32 * (b % 2 ^ 32))
-    ((λ i. sym (split a 32) i * sym (split b 32) i) ∙ columns (2 ^ 32) (a % 2 ^ 32) (a / 2 ^ 32) (b % 2 ^ 32) (b / 2 ^ 32))
 
 -- ---- a rotation: the two parts are the two digits of a number below 2 ^ 64
 

@@ -5,9 +5,6 @@ ghost use Rattle.std.specs.Prelude.{◌≡◌, ◌+◌, ◌*◌, ◌%◌, ◌<�
 ghost use Rattle.xxh64.specs.Xxh64.{mul, rotl, lane, taken, round, merge_accumulator, converge, consume8, consume4, consume1, consume, avalanche, xxh64};
 ghost use Rattle.xxh64.specs.Parts.{fresh, pushed, finish, finished, hashing_of};
 
-use endian::Number;
-use std::num::wrapping_add_u64;
-
 const PRIME1: u64 = 0x9E3779B185EBCA87;
 
 const PRIME2: u64 = 0xC2B2AE3D27D4EB4F;
@@ -17,18 +14,6 @@ const PRIME3: u64 = 0x165667B19E3779F9;
 const PRIME4: u64 = 0x85EBCA77C2B2AE63;
 
 const PRIME5: u64 = 0x27D4EB2F165667C5;
-
-// a * b, modulo 2^64, by halves of 32 bits. LLVM makes it one multiplication.
-fn wrapping_mul(a: u64, b: u64) -> u64
-    ensures { result ≡ mul a b }
-{
-    let a0 = a & 0xffff_ffff;
-    let a1 = a >> 32;
-    let b0 = b & 0xffff_ffff;
-    let b1 = b >> 32;
-    let cross = wrapping_add_u64(a1 * b0, a0 * b1);
-    wrapping_add_u64(cross << 32, a0 * b0)
-}
 
 fn rotl(x: u64, n: u32) -> u64
     requires { (0 < n) × (n < 64) }
@@ -42,26 +27,21 @@ fn lane(s: &[u8], at: usize, width: usize) -> u64
     requires { (width ≤ 8) × (at + width ≤ length s.now) }
     ensures { result ≡ lane s.now at width }
 {
-    let part = &s[at..at + width];
-    match endian::read_little(part, 0, width) {
-        Number::Read(n) => n,
-        Number::Missing => 0,
-    }
+    endian::read_little(&s[at..at + width], 0, width).unwrap()
 }
 
 fn round(acc: u64, x: u64) -> u64
     ensures { result ≡ round acc x }
 {
-    wrapping_mul(
-        rotl(wrapping_add_u64(acc, wrapping_mul(x, PRIME2)), 31),
-        PRIME1,
-    )
+    rotl(acc.wrapping_add(x.wrapping_mul(PRIME2)), 31).wrapping_mul(PRIME1)
 }
 
 fn merge_accumulator(acc: u64, other: u64) -> u64
     ensures { result ≡ merge_accumulator acc other }
 {
-    wrapping_add_u64(wrapping_mul(acc ^ round(0, other), PRIME1), PRIME4)
+    (acc ^ round(0, other))
+        .wrapping_mul(PRIME1)
+        .wrapping_add(PRIME4)
 }
 
 // The state of steps 1 to 3.
@@ -109,10 +89,8 @@ fn stripes(from: Accumulators, s: &[u8], n: usize) -> Accumulators
     ensures acc4_value { result.acc4 ≡ taken round 8 32 s.now 24 from.acc4 n }
 {
     let mut acc = from;
-    let mut k: usize = 0;
-    while k < n {
+    for k in 0..n {
         acc = stripe(acc, s, 32 * k);
-        k += 1;
     }
     acc
 }
@@ -120,11 +98,10 @@ fn stripes(from: Accumulators, s: &[u8], n: usize) -> Accumulators
 fn converge(acc: Accumulators) -> u64
     ensures { result ≡ converge acc.acc1 acc.acc2 acc.acc3 acc.acc4 }
 {
-    let half = wrapping_add_u64(rotl(acc.acc1, 1), rotl(acc.acc2, 7));
-    let sum = wrapping_add_u64(
-        wrapping_add_u64(half, rotl(acc.acc3, 12)),
-        rotl(acc.acc4, 18),
-    );
+    let half = rotl(acc.acc1, 1).wrapping_add(rotl(acc.acc2, 7));
+    let sum = half
+        .wrapping_add(rotl(acc.acc3, 12))
+        .wrapping_add(rotl(acc.acc4, 18));
     let merged = merge_accumulator(merge_accumulator(sum, acc.acc1), acc.acc2);
     merge_accumulator(merge_accumulator(merged, acc.acc3), acc.acc4)
 }
@@ -132,22 +109,23 @@ fn converge(acc: Accumulators) -> u64
 fn consume8(acc: u64, x: u64) -> u64
     ensures { result ≡ consume8 acc x }
 {
-    wrapping_add_u64(wrapping_mul(rotl(acc ^ round(0, x), 27), PRIME1), PRIME4)
+    rotl(acc ^ round(0, x), 27)
+        .wrapping_mul(PRIME1)
+        .wrapping_add(PRIME4)
 }
 
 fn consume4(acc: u64, x: u64) -> u64
     ensures { result ≡ consume4 acc x }
 {
-    wrapping_add_u64(
-        wrapping_mul(rotl(acc ^ wrapping_mul(x, PRIME1), 23), PRIME2),
-        PRIME3,
-    )
+    rotl(acc ^ x.wrapping_mul(PRIME1), 23)
+        .wrapping_mul(PRIME2)
+        .wrapping_add(PRIME3)
 }
 
 fn consume1(acc: u64, x: u64) -> u64
     ensures { result ≡ consume1 acc x }
 {
-    wrapping_mul(rotl(acc ^ wrapping_mul(x, PRIME5), 11), PRIME1)
+    rotl(acc ^ x.wrapping_mul(PRIME5), 11).wrapping_mul(PRIME1)
 }
 
 fn consume(width: usize, acc: u64, x: u64) -> u64
@@ -168,10 +146,8 @@ fn remaining(s: &[u8], at: usize, width: usize, n: usize, from: u64) -> u64
     ensures { result ≡ taken (consume width) width width s.now at from n }
 {
     let mut acc = from;
-    let mut k: usize = 0;
-    while k < n {
+    for k in 0..n {
         acc = consume(width, acc, lane(s, at + width * k, width));
-        k += 1;
     }
     acc
 }
@@ -179,8 +155,8 @@ fn remaining(s: &[u8], at: usize, width: usize, n: usize, from: u64) -> u64
 fn avalanche(acc: u64) -> u64
     ensures { result ≡ avalanche acc }
 {
-    let a = wrapping_mul(acc ^ (acc >> 33), PRIME2);
-    let b = wrapping_mul(a ^ (a >> 29), PRIME3);
+    let a = (acc ^ (acc >> 33)).wrapping_mul(PRIME2);
+    let b = (a ^ (a >> 29)).wrapping_mul(PRIME3);
     b ^ (b >> 32)
 }
 
@@ -192,7 +168,7 @@ fn finish(acc: u64, total: u64, rest: &[u8]) -> u64
 {
     let n = rest.len();
     let all = &rest[..n];
-    let eights = remaining(all, 0, 8, n % 32 / 8, wrapping_add_u64(acc, total));
+    let eights = remaining(all, 0, 8, n % 32 / 8, acc.wrapping_add(total));
     let fours = remaining(all, n / 8 * 8, 4, n % 8 / 4, eights);
     avalanche(remaining(all, n / 4 * 4, 1, n % 4, fours))
 }
@@ -230,13 +206,12 @@ impl State {
         ensures { hashing_of result ≡ fresh }
     {
         let acc = fresh();
-        let held = [0u8; 32];
         State {
             acc1: acc.acc1,
             acc2: acc.acc2,
             acc3: acc.acc3,
             acc4: acc.acc4,
-            held,
+            held: [0; 32],
             count: 0,
         }
     }
@@ -261,12 +236,9 @@ impl State {
         let mut held = self.held;
         let _ = slices::write_bytes(&mut held, at, s);
         State {
-            acc1: self.acc1,
-            acc2: self.acc2,
-            acc3: self.acc3,
-            acc4: self.acc4,
             held,
-            count: wrapping_add_u64(self.count, s.len() as u64),
+            count: self.count.wrapping_add(s.len() as u64),
+            ..self
         }
     }
 
@@ -286,7 +258,7 @@ impl State {
             acc3: acc.acc3,
             acc4: acc.acc4,
             held,
-            count: wrapping_add_u64(self.count, s.len() as u64),
+            count: self.count.wrapping_add(s.len() as u64),
         }
     }
 
@@ -296,14 +268,13 @@ impl State {
         ensures { hashing_of result ≡ pushed (hashing_of self) (take (32 * n) s.now) }
     {
         let acc = stripes(self.accumulators(), s, n);
-        let held = self.held;
         State {
             acc1: acc.acc1,
             acc2: acc.acc2,
             acc3: acc.acc3,
             acc4: acc.acc4,
-            held,
-            count: wrapping_add_u64(self.count, (32 * n) as u64),
+            count: self.count.wrapping_add((32 * n) as u64),
+            ..self
         }
     }
 

@@ -1,21 +1,40 @@
--- `capi_items::kind_number` meets its contract: the tests are the definition's.
-use native.Mathlib.Omega.{arith}
-use borrow.Author.Tests.{eq-eqb, ne_eqb, le-leb, lt-leb}
+-- `capi_items::kind_number` meets its contract: each arm is the definition at the kind's number.
+use Rattle.std.proofs.Common.{⊎_elim}
 use Rattle.capi_items.specs.Items.{kind_number}
 use Rattle.capi_items.proofs.kind_number.Goals as goal
 
-pub returns-then-kind-eq-EXTENSION : goal.returns-then-kind-eq-EXTENSION
+pub returns-in-Unused : goal.returns-in-Unused
 unfolding kind_number
-returns-then-kind-eq-EXTENSION c = rw (eq-eqb _ _ c.if-kind-eq-EXTENSION.true)
+returns-in-Unused c = ⊎_elim (λ e. rw e) (λ e. rw e) c.in-Unused.is
 
-pub returns-then-kind-ge-ARRAY : goal.returns-then-kind-ge-ARRAY
+pub returns-in-Boolean : goal.returns-in-Boolean
 unfolding kind_number
-returns-then-kind-ge-ARRAY c = rw (ne_eqb _ _ c.if-kind-eq-EXTENSION.false, le-leb _ _ c.if-kind-ge-ARRAY.true)
+returns-in-Boolean c = rw c.in-Boolean.is
 
-pub returns-then-kind-gt0 : goal.returns-then-kind-gt0
+pub returns-in-Integer : goal.returns-in-Integer
 unfolding kind_number
-returns-then-kind-gt0 c = rw (ne_eqb _ _ c.if-kind-eq-EXTENSION.false, lt-leb _ _ c.if-kind-ge-ARRAY.false)
+returns-in-Integer c = rw c.in-Integer.is
 
-pub returns-else-kind-gt0 : goal.returns-else-kind-gt0
+pub returns-in-Float : goal.returns-in-Float
 unfolding kind_number
-returns-else-kind-gt0 c = rw (ne_eqb _ _ c.if-kind-eq-EXTENSION.false, lt-leb _ _ c.if-kind-ge-ARRAY.false) (omega arith)
+returns-in-Float c = rw c.in-Float.is
+
+pub returns-in-Text : goal.returns-in-Text
+unfolding kind_number
+returns-in-Text c = rw c.in-Text.is
+
+pub returns-in-Binary : goal.returns-in-Binary
+unfolding kind_number
+returns-in-Binary c = rw c.in-Binary.is
+
+pub returns-in-Array : goal.returns-in-Array
+unfolding kind_number
+returns-in-Array c = rw c.in-Array.is
+
+pub returns-in-Map : goal.returns-in-Map
+unfolding kind_number
+returns-in-Map c = rw c.in-Map.is
+
+pub returns-in-Extension : goal.returns-in-Extension
+unfolding kind_number
+returns-in-Extension c = rw c.in-Extension.is

@@ -33,15 +33,12 @@ overflow_mul-i c =
     let d = c in
     omega (arith, more (goal.at.overflow_mul-i d).After-next_entry, count_few _ (bytes (goal.at.overflow_mul-i d).After-next_entry) d.args.list d.requires.0)
 
-pub loop-i-smaller : goal.loop-i-smaller
-loop-i-smaller c = omega arith
-
 pub loop-i-preserved : goal.loop-i-preserved
 loop-i-preserved c =
     let e = c in
     let d = e in
     let next = d.next_entry in
-    goes_on _ _ _ d.requires.1 _ _ _ d.loop-i.invariant (more (goal.at.loop-i-preserved d).After-next_entry) next.result next.ensures.result_value next.ensures.inside _ _ _ e.in-Entry.is _
+    goes_on _ _ _ d.requires.1 _ _ _ d.loop-i.invariant (more (goal.at.loop-i-preserved d).After-next_entry) next.result next.ensures.result_value next.ensures.inside _ e.in-Some.is _
     c.store.ensures.told_after
 
 pub shape_of-told : goal.shape_of-told

@@ -14,26 +14,26 @@ pub returns-then-told-count : goal.returns-then-told-count
 returns-then-told-count c =
     let k = c in
     let r = k in
-    let e = list_short _ (bytes (goal.at.returns-then-told-count r).After-read) _ r.read.result r.read.ensures.result_value r.read.ensures.inside _ k.in-List.is (omega arith) in
+    let e = list_short _ (bytes (goal.at.returns-then-told-count r).After-read) _ r.read.result r.read.ensures.result_value r.read.ensures.inside _ k.in-Ok.is (omega arith) in
     rw c.answer.ensures (record { answer = e.0; told = e.1 })
 
 pub fill-requires : goal.fill-requires
 fill-requires c =
     let k = c in
     let r = k in
-    (list_inside _ (bytes (goal.at.fill-requires r).After-read) r.args.told.now r.read.result r.read.ensures.result_value r.read.ensures.inside _ k.in-List.is, omega arith)
+    (list_inside _ (bytes (goal.at.fill-requires r).After-read) r.args.told.now r.read.result r.read.ensures.result_value r.read.ensures.inside _ k.in-Ok.is, omega arith)
 
 pub returns-else-told-count : goal.returns-else-told-count
 returns-else-told-count c =
     let filled = c in
     let k = filled in
     let r = k in
-    let e = list_filled _ (bytes (goal.at.returns-else-told-count r).After-read) _ r.read.result r.read.ensures.result_value r.read.ensures.inside _ k.in-List.is (omega arith) in
-    rw (c.answer-in-List.ensures, filled.fill.ensures) (record { answer = e.0; told = e.1 })
+    let e = list_filled _ (bytes (goal.at.returns-else-told-count r).After-read) _ r.read.result r.read.ensures.result_value r.read.ensures.inside _ k.in-Ok.is (omega arith) in
+    rw (c.answer-in-Ok.ensures, filled.fill.ensures) (record { answer = e.0; told = e.1 })
 
-pub returns-in-Refused : goal.returns-in-Refused
-returns-in-Refused c =
+pub returns-in-Err : goal.returns-in-Err
+returns-in-Err c =
     let k = c in
     let r = k in
-    let e = list_refused _ (bytes (goal.at.returns-in-Refused r).After-read) _ r.read.result r.read.ensures.result_value r.read.ensures.inside _ (ap (reading_of _) k.in-Refused.is) (omega (arith, c.number.ensures, c.number.type_inv)) in
-    rw (c.answer-in-Refused.ensures, c.number.ensures) (record { answer = e.0; told = e.1 })
+    let e = list_refused _ (bytes (goal.at.returns-in-Err r).After-read) _ r.read.result r.read.ensures.result_value r.read.ensures.inside _ (ap (reading_of _) k.in-Err.is) (omega (arith, c.from.ensures, c.from.type_inv)) in
+    rw (c.answer-in-Err.ensures, c.from.ensures) (record { answer = e.0; told = e.1 })

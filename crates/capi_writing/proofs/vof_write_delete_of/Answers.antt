@@ -1,28 +1,40 @@
--- `capi_writing::vof_write_delete_of` meets its contract: the struct read from the text stands for what the text reads as.
-use mathlib.Core.Path.{ap, ◌∙◌}
-use Rattle.writer.specs.Writing.{deletion}
+-- `capi_writing::vof_write_delete_of` meets its contract: the struct read from the text names what the text reads as.
+use mathlib.Core.Path.{◌≡◌, refl, sym, ap, ◌∙◌}
+use Rattle.std.specs.Prelude.{None}
+use lib.ListN.{length}
+use Rattle.refusals.specs.Limit.{pack_limit}
+use Rattle.identifier.specs.Composite.{identity_in}
+use Rattle.held_identifier.specs.Held.{named}
+use Rattle.writer.specs.Writing.{deletion, of_identity, written, buffer_after}
 use Rattle.capi_writing.specs.Write.{written_word}
 use Rattle.capi_writing.proofs.Bounds.{count_within}
-use Rattle.capi_writing.proofs.Identities.{by_text}
+use Rattle.capi_writing.proofs.Identities.{read_names, none_read}
 use Rattle.capi_writing.proofs.vof_write_delete_of.Goals as goal
+use Rattle.capi_writing.proofs.vof_write_delete_of.Goals.{In-Some, In_default}
+
+names : (c : In-Some) → named c.in-Some.identifier ≡ identity_in c.args.id.now
+names c = read_names _ _ (sym c.read_composite.ensures ∙ c.in-Some.is)
+
+none : (c : In_default) → identity_in c.args.id.now ≡ None
+none c = none_read _ (λ id e. c.in_default.not-Some id (c.read_composite.ensures ∙ e))
 
 pub word_of-requires : goal.word_of-requires
-word_of-requires c =
-    let called = c.write_delete_of in
-    count_within _ _ _ called.result called.ensures.answer
+word_of-requires c = count_within _ _ _ c.write_delete_of.result c.write_delete_of.ensures.answer
 
 pub returns-clause-answer : goal.returns-clause-answer
 returns-clause-answer c =
-    let called = c.write_delete_of in
-    let start = c in
-    let read = c.read_composite-read in
-    let text = by_text (λ i. deletion i start.args.deleteid.now) (λ i e. rw e) start.args.used start.args.buf.now start.args.id.now read.result read.ensures called.result called.ensures.answer called.new.buf called.ensures.buffer in
-    c.word_of.ensures ∙ ap written_word text.0
+    let same = names (goal.at.returns-clause-answer c).In-Some in
+    c.word_of.ensures ∙ ap written_word (c.write_delete_of.ensures.answer ∙ ap (λ o. written pack_limit (length c.args.buf.now) c.args.used (of_identity (λ i. deletion i c.args.deleteid.now) o)) same)
 
 pub returns-clause-buffer : goal.returns-clause-buffer
 returns-clause-buffer c =
-    let called = c.write_delete_of in
-    let start = c in
-    let read = c.read_composite-read in
-    let text = by_text (λ i. deletion i start.args.deleteid.now) (λ i e. rw e) start.args.used start.args.buf.now start.args.id.now read.result read.ensures called.result called.ensures.answer called.new.buf called.ensures.buffer in
-    text.1
+    let same = names (goal.at.returns-clause-buffer c).In-Some in
+    c.write_delete_of.ensures.buffer ∙ ap (λ o. buffer_after pack_limit c.args.used (of_identity (λ i. deletion i c.args.deleteid.now) o) c.args.buf.now) same
+
+pub returns-in_default-clause-answer : goal.returns-in_default-clause-answer
+unfolding written
+returns-in_default-clause-answer c = rw (none (goal.at.returns-in_default-clause-answer c).In_default, c.answer.ensures)
+
+pub returns-in_default-clause-buffer : goal.returns-in_default-clause-buffer
+unfolding buffer_after
+returns-in_default-clause-buffer c = rw (none (goal.at.returns-in_default-clause-buffer c).In_default)

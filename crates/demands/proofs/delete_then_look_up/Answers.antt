@@ -1,6 +1,6 @@
 -- `demands::delete_then_look_up` meets its contract: what is asked for is a `vd`.
 use borrow.Author.Rules.{rules}
-use mathlib.Core.Option.{some}
+use Rattle.std.specs.Prelude.{Some}
 use mathlib.Core.Path.{refl}
 use Rattle.slices.specs.Bytes.{AllBytes}
 use Rattle.writer.specs.Writing.{version_delete}
@@ -11,7 +11,7 @@ pub look_up-requires : goal.look_up-requires
 look_up-requires c =
     let written = c.write_part-written in
     let start = c in
-    deletion_inside start.args.used (some (version_delete start.args.part.now)) start.args.buf.now _ written.ensures written.auto.buf
+    deletion_inside start.args.used (Some (version_delete start.args.part.now)) start.args.buf.now _ written.ensures written.auto.buf
 
 pub returns : goal.returns
 returns c =

@@ -14,13 +14,13 @@ overflow_add-value c = let l = c in omega (arith, header_inside _ _ l.loop-at.in
 pub check_record-requires : goal.check_record-requires
 check_record-requires c = let l = c in header_inside _ _ l.loop-at.invariant (omega arith)
 
-pub returns-in-Refused : goal.returns-in-Refused
-returns-in-Refused c =
+pub returns-in-Err : goal.returns-in-Err
+returns-in-Err c =
     let d = c in
     let p = d in
     let l = p in
     sym (ap (outcome_by _) (walks_fault _ _ l.loop-at.invariant (omega arith) p.pass_at-passed.result p.pass_at-passed.ensures _
-    (d.in-Refused.ensures)))
+    (d.in-Err.ensures)))
 
 pub loop-at-smaller : goal.loop-at-smaller
 loop-at-smaller c =

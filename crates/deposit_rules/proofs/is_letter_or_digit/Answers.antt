@@ -1,8 +1,12 @@
 -- `deposit_rules::is_letter_or_digit` meets its contract.
-use borrow.Author.Rules.{rules}
+use Rattle.std.proofs.Common.{rules}
 use Rattle.deposit_rules.specs.Buckets.{is_letter_or_digit}
 use Rattle.deposit_rules.proofs.is_letter_or_digit.Goals as goal
 
-pub returns : goal.returns
+pub returns-then-is_ascii_lowercase : goal.returns-then-is_ascii_lowercase
 unfolding is_letter_or_digit
-returns c = search rules
+returns-then-is_ascii_lowercase c = search rules
+
+pub returns-else-is_ascii_lowercase : goal.returns-else-is_ascii_lowercase
+unfolding is_letter_or_digit
+returns-else-is_ascii_lowercase c = search rules

@@ -1,19 +1,17 @@
 -- `deposit_rules::part_keys_are_given` meets its contract, by the tag.
+use Rattle.std.proofs.Common.{◌≡◌, arith}
+use Rattle.records.specs.Record.{block_tag, version_tag, version_delete_tag}
 use Rattle.deposit_rules.proofs.Tables.{block_coded, version_coded, delete_coded, pack_list_coded, part_of_block, part_of_version, part_of_delete, part_of_other}
 use Rattle.deposit_rules.proofs.part_keys_are_given.Goals as goal
 
--- src/lib.rt:130:9
-pub returns-then-tag-eq-BLOCK : goal.returns-then-tag-eq-BLOCK
-returns-then-tag-eq-BLOCK c = rw (part_of_block _ c.if-tag-eq-BLOCK.true) (c.are_among.ensures.are _ block_coded)
+pub returns-in-25195 : goal.returns-in-25195
+returns-in-25195 c = rw (part_of_block _ c.in-25195.is) (c.are_among.ensures.are _ block_coded)
 
--- src/lib.rt:133:9
-pub returns-then-tag-eq-VERSION : goal.returns-then-tag-eq-VERSION
-returns-then-tag-eq-VERSION c = rw (part_of_version _ c.if-tag-eq-BLOCK.false c.if-tag-eq-VERSION.true) (c.are_among-then-tag-eq-VERSION.ensures.are _ version_coded)
+pub returns-in-30322 : goal.returns-in-30322
+returns-in-30322 c = rw (part_of_version _ c.in-30322.is) (c.are_among-in-30322.ensures.are _ version_coded)
 
--- src/lib.rt:136:9
-pub returns-then-tag-eq-VERSION_DELETE : goal.returns-then-tag-eq-VERSION_DELETE
-returns-then-tag-eq-VERSION_DELETE c = rw (part_of_delete _ c.if-tag-eq-BLOCK.false c.if-tag-eq-VERSION.false c.if-tag-eq-VERSION_DELETE.true) (c.are_among-then-tag-eq-VERSION_DELETE.ensures.are _ delete_coded)
+pub returns-in-30308 : goal.returns-in-30308
+returns-in-30308 c = rw (part_of_delete _ c.in-30308.is) (c.are_among-in-30308.ensures.are _ delete_coded)
 
--- src/lib.rt:126:1
-pub returns : goal.returns
-returns c = rw (part_of_other _ c.if-tag-eq-BLOCK.false c.if-tag-eq-VERSION.false c.if-tag-eq-VERSION_DELETE.false) (c.are_among-2.ensures.are _ pack_list_coded)
+pub returns-in_default : goal.returns-in_default
+returns-in_default c = rw (part_of_other _ (λ (e : c.args.tag ≡ block_tag). omega (arith, e)) (λ (e : c.args.tag ≡ version_tag). omega (arith, e)) (λ (e : c.args.tag ≡ version_delete_tag). omega (arith, e))) (c.are_among-in_default.ensures.are _ pack_list_coded)

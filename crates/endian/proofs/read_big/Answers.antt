@@ -1,5 +1,5 @@
 -- `endian::read_big` meets its contract. The test has shown that the number stands there.
-use mathlib.Core.Option.{some}
+use Rattle.std.specs.Prelude.{Some}
 use mathlib.Core.Path.{sym, ap, ◌∙◌}
 use lib.ListN.{length}
 use Rattle.endian.specs.Numbers.{big}
@@ -15,7 +15,7 @@ pub big-requires : goal.big-requires
 big-requires c = let h = within c in (h.narrow, h.inside)
 
 pub returns-then-holds : goal.returns-then-holds
-returns-then-holds c = ap some c.big.ensures ∙ sym (number_there big _ _ _ (within (goal.at.returns-then-holds c).Then-holds))
+returns-then-holds c = ap Some c.big.ensures ∙ sym (number_there big _ _ _ (within (goal.at.returns-then-holds c).Then-holds))
 
 pub returns-else-holds : goal.returns-else-holds
 unfolding number_at

@@ -1,5 +1,5 @@
 -- `endian::read_little` meets its contract. The test has shown that the number stands there.
-use mathlib.Core.Option.{some}
+use Rattle.std.specs.Prelude.{Some}
 use mathlib.Core.Path.{sym, ap, ◌∙◌}
 use lib.ListN.{length}
 use Rattle.endian.specs.Numbers.{little}
@@ -15,7 +15,7 @@ pub little-requires : goal.little-requires
 little-requires c = let h = within c in (h.narrow, h.inside)
 
 pub returns-then-holds : goal.returns-then-holds
-returns-then-holds c = ap some c.little.ensures ∙ sym (number_there little _ _ _ (within (goal.at.returns-then-holds c).Then-holds))
+returns-then-holds c = ap Some c.little.ensures ∙ sym (number_there little _ _ _ (within (goal.at.returns-then-holds c).Then-holds))
 
 pub returns-else-holds : goal.returns-else-holds
 unfolding number_at

@@ -3,7 +3,7 @@ use mathlib.Core.Path.{◌∙◌}
 use native.Mathlib.Omega.{arith}
 use Rattle.refusals.specs.Limit.{pack_limit}
 use Rattle.lookup_records.specs.Walk.{placed_from}
-use Rattle.explanation.specs.Answers.{found_in}
+use Rattle.lookup.specs.Answers.{candidate_in}
 use Rattle.explanation.proofs.Endings.{too_few, enough}
 use Rattle.explanation.proofs.tell.Goals as goal
 
@@ -14,7 +14,7 @@ pub returns-then-told-n-clause-told : goal.returns-then-told-n-clause-told
 returns-then-told-n-clause-told c =
     let s = c.args.pack.now in
     let told =
-    too_few (placed_from pack_limit s 0) (found_in s c.args.found) c.args.bucket.now c.args.object.now c.args.told.now c.args.ulid c.count_versions-n.result
+    too_few (placed_from pack_limit s 0) (candidate_in s c.args.found) c.args.bucket.now c.args.object.now c.args.told.now c.args.ulid c.count_versions-n.result
     c.count_versions-n.ensures (omega arith) in
     told.1
 
@@ -25,12 +25,12 @@ pub returns-clause-answer : goal.returns-clause-answer
 returns-clause-answer c =
     let b = c in
     let counted = c.count_versions-n in
-    let told = enough (placed_from pack_limit b.args.pack.now 0) (found_in b.args.pack.now b.args.found) b.args.bucket.now b.args.object.now b.args.told.now b.args.ulid counted.result counted.ensures (omega arith) in
+    let told = enough (placed_from pack_limit b.args.pack.now 0) (candidate_in b.args.pack.now b.args.found) b.args.bucket.now b.args.object.now b.args.told.now b.args.ulid counted.result counted.ensures (omega arith) in
     told.0
 
 pub returns-clause-told : goal.returns-clause-told
 returns-clause-told c =
     let b = c in
     let counted = c.count_versions-n in
-    let told = enough (placed_from pack_limit b.args.pack.now 0) (found_in b.args.pack.now b.args.found) b.args.bucket.now b.args.object.now b.args.told.now b.args.ulid counted.result counted.ensures (omega arith) in
+    let told = enough (placed_from pack_limit b.args.pack.now 0) (candidate_in b.args.pack.now b.args.found) b.args.bucket.now b.args.object.now b.args.told.now b.args.ulid counted.result counted.ensures (omega arith) in
     c.fill.ensures ∙ told.1

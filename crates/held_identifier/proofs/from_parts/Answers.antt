@@ -1,17 +1,16 @@
--- What was tested is held; what fails the test is answered by zeros.
+-- What was tested is held.
 use Rattle.held_identifier.specs.Held.{answered}
 use Rattle.identifier.specs.Identity.{identity_of, sizes}
 use mathlib.Core.Path.{sym, ◌∙◌}
 use Rattle.held_identifier.proofs.from_parts.Goals as goal
 
-pub hold-id-requires : goal.hold-id-requires
-hold-id-requires c = let s = sizes _ (sym c.is_identifier.ensures ∙ c.if-is_identifier.true) in
-    (s.ulid, s.bucketmost, s.objectmost)
+pub hold-requires : goal.hold-requires
+hold-requires c = let s = sizes _ (sym c.is_identifier.ensures ∙ c.if-is_identifier.true) in (s.ulid, s.bucketmost, s.objectmost)
 
 pub returns-then-is_identifier : goal.returns-then-is_identifier
 unfolding answered identity_of
-returns-then-is_identifier c = rw (sym c.is_identifier.ensures ∙ c.if-is_identifier.true, c.hold-id.ensures)
+returns-then-is_identifier c = rw (sym c.is_identifier.ensures ∙ c.if-is_identifier.true, c.hold.ensures)
 
 pub returns-else-is_identifier : goal.returns-else-is_identifier
 unfolding answered identity_of
-returns-else-is_identifier c = rw (sym c.is_identifier.ensures ∙ c.if-is_identifier.false, c.zeros-id.ensures)
+returns-else-is_identifier c = rw (sym c.is_identifier.ensures ∙ c.if-is_identifier.false)

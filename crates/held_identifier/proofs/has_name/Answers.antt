@@ -1,21 +1,15 @@
--- The tests of the definition, in another order.
-use borrow.Author.Rules.{rules}
-use Rattle.held_identifier.proofs.Structs.{Arrays, name_tests}
-use mathlib.Core.Path.{sym, ◌∙◌}
+-- The tests of the definition.
+use Rattle.held_identifier.specs.Held.{has_name}
 use Rattle.held_identifier.proofs.has_name.Goals as goal
-use Rattle.held_identifier.proofs.has_name.Goals.{Start}
 
-arrays : (s : Start) → Arrays s.args.id
-arrays s = record { bucket = search rules; object = search rules }
+pub returns-in_default : goal.returns-in_default
+unfolding has_name
+returns-in_default c = rw (← c.in_default.ensures)
 
-pub returns-then-not-same_fronts : goal.returns-then-not-same_fronts
-returns-then-not-same_fronts c =
-    let s = c in
-    sym (name_tests _ _ _ (arrays (goal.at.returns-then-not-same_fronts s).Start) ∙ rw (sym c.same_fronts.ensures ∙ c.if-not-same_fronts.true))
+pub returns-then-same_bytes : goal.returns-then-same_bytes
+unfolding has_name
+returns-then-same_bytes c = rw (← c.in-Some.ensures, ← c.same_bytes.ensures, c.if-same_bytes.true) c.same_bytes-then-same_bytes.ensures
 
-pub returns : goal.returns
-returns c =
-    let d = c in
-    let s = d in
-    let buckets = sym d.same_fronts.ensures ∙ d.if-not-same_fronts.false in
-    sym (name_tests _ _ _ (arrays (goal.at.returns s).Start) ∙ rw (buckets, c.same_fronts-2.ensures))
+pub returns-else-same_bytes : goal.returns-else-same_bytes
+unfolding has_name
+returns-else-same_bytes c = rw (← c.in-Some.ensures, ← c.same_bytes.ensures, c.if-same_bytes.false)

@@ -1,34 +1,34 @@
--- The tests of the definition, in another order.
-use borrow.Author.Rules.{rules}
-use Rattle.held_identifier.proofs.Structs.{Arrays, same_tests}
-use mathlib.Core.Path.{sym, ◌∙◌}
+-- The tests of the definition.
+use Rattle.std.specs.Prelude.{Option, None, Some}
+use mathlib.Core.Path.{◌≡◌, refl, sym, ◌∙◌}
+use mathlib.Core.Bool.{false, true≢false}
+use Rattle.identifier.specs.Identity.{Identity, same_identity}
+use Rattle.held_identifier.specs.Held.{same}
 use Rattle.held_identifier.proofs.same_identifier.Goals as goal
-use Rattle.held_identifier.proofs.same_identifier.Goals.{Start}
+use Rattle.held_identifier.proofs.same_identifier.Goals.{then-same_bytes, else-same_bytes}
 
-arrays_a : (s : Start) → Arrays s.args.a
-arrays_a s = record { bucket = search rules; object = search rules }
+none_same : (x : Option Identity) → same x None ≡ false
+unfolding same
+none_same None = refl
+none_same (Some i) = refl
 
-arrays_b : (s : Start) → Arrays s.args.b
-arrays_b s = record { bucket = search rules; object = search rules }
+pub returns-in_default : goal.returns-in_default
+unfolding same
+returns-in_default c = rw (← c.in_default.ensures)
 
-pub returns-then-not-same_bytes : goal.returns-then-not-same_bytes
-returns-then-not-same_bytes c =
-    let s = c in
-    sym (same_tests _ _ (arrays_a (goal.at.returns-then-not-same_bytes s).Start) (arrays_b (goal.at.returns-then-not-same_bytes s).Start) ∙ rw (sym c.same_bytes.ensures ∙ c.if-not-same_bytes.true))
+pub returns-in_default-texts : goal.returns-in_default-texts
+returns-in_default-texts c = rw (← c.in_default-texts.ensures) (sym (none_same _))
 
-pub returns-then-not-same_fronts : goal.returns-then-not-same_fronts
-returns-then-not-same_fronts c =
-    let d = c in
-    let s = d in
-    let ulids = sym d.same_bytes.ensures ∙ d.if-not-same_bytes.false in
-    let buckets = sym c.same_fronts.ensures ∙ c.if-not-same_fronts.true in
-    sym (same_tests _ _ (arrays_a (goal.at.returns-then-not-same_fronts s).Start) (arrays_b (goal.at.returns-then-not-same_fronts s).Start) ∙ rw (ulids, buckets))
+pub returns-then-same_bytes-2 : goal.returns-then-same_bytes-2
+unfolding same same_identity
+returns-then-same_bytes-2 c = rw (← c.in-Some.ensures, ← c.in-Some-texts.ensures, ← c.same_bytes.ensures) (elim c.if-same_bytes.branch [
+  | then-same_bytes w ↦ rw (w.if-same_bytes.true, ← w.same_bytes-then-same_bytes.ensures, ← w.value-is, c.if-same_bytes-2.true) c.same_bytes-then-same_bytes-2.ensures
+  | else-same_bytes w ↦ absurd (true≢false (sym c.if-same_bytes-2.true ∙ w.value-is ∙ w.if-same_bytes.false))
+])
 
-pub returns : goal.returns
-returns c =
-    let e = c in
-    let d = e in
-    let s = d in
-    let ulids = sym d.same_bytes.ensures ∙ d.if-not-same_bytes.false in
-    let buckets = sym e.same_fronts.ensures ∙ e.if-not-same_fronts.false in
-    sym (same_tests _ _ (arrays_a (goal.at.returns s).Start) (arrays_b (goal.at.returns s).Start) ∙ rw (ulids, buckets, c.same_fronts-2.ensures))
+pub returns-else-same_bytes-2 : goal.returns-else-same_bytes-2
+unfolding same same_identity
+returns-else-same_bytes-2 c = rw (← c.in-Some.ensures, ← c.in-Some-texts.ensures, ← c.same_bytes.ensures) (elim c.if-same_bytes.branch [
+  | then-same_bytes w ↦ c.if-same_bytes-2.false ∙ rw (w.if-same_bytes.true, ← w.same_bytes-then-same_bytes.ensures, ← w.value-is, c.if-same_bytes-2.false)
+  | else-same_bytes w ↦ c.if-same_bytes-2.false ∙ rw (w.if-same_bytes.false)
+])

@@ -1,21 +1,21 @@
 -- The tests of the definition: the rules first, then the room.
 use lib.ListN.{length}
-use mathlib.Core.Option.{some}
+use Rattle.std.specs.Prelude.{Some}
 use Rattle.slices.specs.Overwriting.{overwritten}
 use mathlib.Core.Bool.{true}
 use Rattle.identifier.specs.Composite.{composite_text, composite_length}
 use Rattle.held_identifier.specs.Writing.{wrote, outcome, left, write_inadmissible, write_short, write_done}
 use Rattle.identifier.specs.Identity.{Identity, identity, is_valid, sizes}
-use Prim.Native.Nat.{ℕ, ◌+◌, ◌≤◌}
+use Prim.Native.Nat.{ℕ, ◌+◌, ◌<◌, ◌≤◌}
 use mathlib.Core.List.{List}
 use native.Mathlib.Omega.{arith}
 use mathlib.Core.Path.{◌≡◌, sym, ap, ◌∙◌}
 use Rattle.held_identifier.proofs.write_parts.Goals as goal
-use Rattle.held_identifier.proofs.write_parts.Goals.{Else-not-is_identifier}
+use Rattle.held_identifier.proofs.write_parts.Goals.{Else-not-is_identifier, then-out-n-via-then-out-n, then-out-n-via-else-out-n+then-out-n-2}
 
 -- the code counts the text's bytes before it puts them
 done : (i : Identity) (out l : List ℕ) (at n : ℕ) → is_valid i ≡ true → length (composite_text i) ≡ n → at + n ≤ length out → l ≡ overwritten out at (composite_text i)
-    → (wrote n ≡ outcome (some i) out at) × (l ≡ left (some i) out at)
+    → (wrote n ≡ outcome (Some i) out at) × (l ≡ left (Some i) out at)
 done i out l at n v e h f =
     let d = write_done i out at v (rw e h) in
     (ap wrote (sym e) ∙ sym d.0, f ∙ sym d.1)
@@ -37,12 +37,12 @@ overflow_add-n-2 c = omega (arith, sizes _ (known c))
 
 pub returns-then-out-n : goal.returns-then-out-n
 returns-then-out-n c =
-    let e = write_short _ _ _ (known (goal.at.returns-then-out-n c).Else-not-is_identifier) (omega (arith, composite_length _ (known (goal.at.returns-then-out-n c).Else-not-is_identifier))) in
-    record { answer = sym e.0; holds = sym e.1 }
-
-pub returns-then-out-n-2 : goal.returns-then-out-n-2
-returns-then-out-n-2 c =
-    let e = write_short _ _ _ (known (goal.at.returns-then-out-n-2 c).Else-not-is_identifier) (omega (arith, composite_length _ (known (goal.at.returns-then-out-n-2 c).Else-not-is_identifier))) in
+    let k = known (goal.at.returns-then-out-n c).Else-not-is_identifier in
+    let short = elim c.then-out-n.branch as (λ _. length c.args.out.now < c.args.at + length (composite_text (identity c.args.ulid.now c.args.bucket.now c.args.object.now))) [
+      | then-out-n-via-then-out-n w ↦ omega (arith, composite_length _ k)
+      | then-out-n-via-else-out-n+then-out-n-2 w ↦ omega (arith, composite_length _ k)
+    ] in
+    let e = write_short _ _ _ k short in
     record { answer = sym e.0; holds = sym e.1 }
 
 pub put_composite-requires : goal.put_composite-requires

@@ -1,13 +1,14 @@
--- A text has no slash when all of it stands before the first one.
-use Rattle.identifier.proofs.Rules.{bucket_empty, bucket_long, bucket_counted}
-use native.Mathlib.Omega.{arith}
+-- The size and the search for a slash are those of the definition.
+use mathlib.Core.Path.{ap, ◌∙◌}
+use mathlib.Core.Bool.{not}
+use Rattle.identifier.specs.Identity.{slash, is_bucket}
+use Rattle.identifier.proofs.Searches.{member_is}
 use Rattle.identifier.proofs.is_bucket.Goals as goal
 
-pub returns-then-s-eq0 : goal.returns-then-s-eq0
-returns-then-s-eq0 c = bucket_empty _ c.if-s-eq0.true
+pub returns-then-is_sized : goal.returns-then-is_sized
+unfolding is_bucket
+returns-then-is_sized c = rw (← c.is_sized.ensures, c.if-is_sized.true) (ap not (c.contains.ensures.value ∙ member_is slash c.args.s.now))
 
-pub returns-then-s-gt63 : goal.returns-then-s-gt63
-returns-then-s-gt63 c = bucket_long _ c.if-s-gt63.true
-
-pub returns : goal.returns
-returns c = bucket_counted _ _ c.count_before_slash.ensures (omega arith) (omega arith)
+pub returns-else-is_sized : goal.returns-else-is_sized
+unfolding is_bucket
+returns-else-is_sized c = rw (← c.is_sized.ensures, c.if-is_sized.false)

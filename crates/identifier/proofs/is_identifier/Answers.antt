@@ -1,16 +1,20 @@
 -- The three tests are those of the definition.
-use Rattle.identifier.specs.Identity.{is_valid}
 use mathlib.Core.Path.{sym, ◌∙◌}
+use mathlib.Core.Bool.{true≢false}
+use Rattle.identifier.specs.Identity.{is_valid}
 use Rattle.identifier.proofs.is_identifier.Goals as goal
+use Rattle.identifier.proofs.is_identifier.Goals.{then-is_ulid, else-is_ulid}
 
-pub returns-then-not-is_ulid : goal.returns-then-not-is_ulid
+pub returns-then-is_bucket : goal.returns-then-is_bucket
 unfolding is_valid
-returns-then-not-is_ulid c = rw (sym c.is_ulid.ensures ∙ c.if-not-is_ulid.true)
+returns-then-is_bucket c = elim c.if-is_ulid.branch [
+  | then-is_ulid w ↦ rw (← c.is_ulid.ensures, w.if-is_ulid.true, ← w.is_bucket.ensures, ← w.value-is, c.if-is_bucket.true) c.is_object.ensures
+  | else-is_ulid w ↦ absurd (true≢false (sym c.if-is_bucket.true ∙ w.value-is ∙ w.if-is_ulid.false))
+]
 
-pub returns-then-not-is_bucket : goal.returns-then-not-is_bucket
+pub returns-else-is_bucket : goal.returns-else-is_bucket
 unfolding is_valid
-returns-then-not-is_bucket c = rw (sym c.is_bucket.ensures ∙ c.if-not-is_bucket.true, sym c.is_ulid.ensures ∙ c.if-not-is_ulid.false)
-
-pub returns : goal.returns
-unfolding is_valid
-returns c = rw (sym c.is_bucket.ensures ∙ c.if-not-is_bucket.false, sym c.is_ulid.ensures ∙ c.if-not-is_ulid.false) c.is_object.ensures
+returns-else-is_bucket c = elim c.if-is_ulid.branch [
+  | then-is_ulid w ↦ c.if-is_bucket.false ∙ rw (← c.is_ulid.ensures, w.if-is_ulid.true, ← w.is_bucket.ensures, ← w.value-is, c.if-is_bucket.false)
+  | else-is_ulid w ↦ c.if-is_bucket.false ∙ rw (← c.is_ulid.ensures, w.if-is_ulid.false)
+]

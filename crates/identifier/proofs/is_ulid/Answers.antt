@@ -1,31 +1,23 @@
--- Every byte passed is a character, so the rest and the first byte decide.
-use Rattle.identifier.specs.Ulid.{is_character, is_ulid}
-use Rattle.identifier.proofs.Loops.{all_fails, all_later, all_end}
+-- The three tests are those of the definition.
 use borrow.Author.Tests.{eq-eqb, ne_eqb}
-use native.Mathlib.Omega.{arith}
-use mathlib.Core.Path.{sym, ap, ◌∙◌}
-use Rattle.identifier.proofs.is_ulid.Invariants.{with_first}
+use mathlib.Core.Path.{sym, ◌∙◌}
+use mathlib.Core.Bool.{true≢false}
+use Rattle.identifier.specs.Ulid.{is_character, is_ulid}
+use Rattle.identifier.proofs.Searches.{all_is}
 use Rattle.identifier.proofs.is_ulid.Goals as goal
+use Rattle.identifier.proofs.is_ulid.Goals.{then-s-eq26, else-s-eq26}
 
-pub returns-then-s-ne26 : goal.returns-then-s-ne26
+pub returns-then-are_characters : goal.returns-then-are_characters
 unfolding is_ulid
-returns-then-s-ne26 c = simp (ne_eqb _ _ c.if-s-ne26.true)
+returns-then-are_characters c = elim c.if-s-eq26.branch [
+  | then-s-eq26 w ↦ rw (eq-eqb _ _ w.if-s-eq26.true, ← all_is is_character c.args.s.now, ← w.are_characters.ensures, ← w.value-is, c.if-are_characters.true)
+  | else-s-eq26 w ↦ absurd (true≢false (sym c.if-are_characters.true ∙ w.value-is ∙ ne_eqb _ _ w.if-s-eq26.false))
+]
 
-pub loop-i-init : goal.loop-i-init
+pub returns-else-are_characters : goal.returns-else-are_characters
 unfolding is_ulid
-loop-i-init c = (omega arith, simp (eq-eqb _ _ c.if-s-ne26.false))
-
-pub returns-then-not-is_character : goal.returns-then-not-is_character
-returns-then-not-is_character c = let l = c in
-    let s = l.args.s.now in
-    sym (l.loop-i.invariant.1 ∙ ap (with_first s) (all_fails s l.loop-i.i is_character (omega arith) (sym c.is_character.ensures ∙ c.if-not-is_character.true)))
-
-pub loop-i-preserved : goal.loop-i-preserved
-loop-i-preserved c = let l = c in
-    let s = l.args.s.now in
-    (omega arith, l.loop-i.invariant.1 ∙ ap (with_first s) (all_later s l.loop-i.i is_character (omega arith) (sym c.is_character.ensures ∙ c.if-not-is_character.false)))
-
-pub returns : goal.returns
-returns c = let l = c in
-    let s = l.args.s.now in
-    sym (l.loop-i.invariant.1 ∙ ap (with_first s) (all_end s l.loop-i.i is_character (omega arith)))
+returns-else-are_characters c = elim c.if-s-eq26.branch [
+  | then-s-eq26 w ↦ c.if-are_characters.false
+      ∙ rw (eq-eqb _ _ w.if-s-eq26.true, ← all_is is_character c.args.s.now, ← w.are_characters.ensures, ← w.value-is, c.if-are_characters.false)
+  | else-s-eq26 w ↦ c.if-are_characters.false ∙ rw (ne_eqb _ _ w.if-s-eq26.false)
+]

@@ -1,25 +1,13 @@
--- The bytes passed are the same in both, so the order is that of what is left.
-use Rattle.identifier.proofs.Loops.{less_differs, less_later, less_short, less_left}
+-- The order of the library's slices is that of the definition.
+use mathlib.Core.Path.{refl}
 use native.Mathlib.Omega.{arith}
-use mathlib.Core.Path.{sym, ◌∙◌}
+use Rattle.std.specs.Ordering.{nat_cmp, is_lt}
+use Rattle.std.proofs.lemmas.Bool.Decides.{nat_tests}
+use Rattle.std.proofs.lemmas.Cmp.{same_from_slice_cmp_tested}
+use Rattle.identifier.specs.Texts.{less}
 use Rattle.identifier.proofs.less_bytes.Goals as goal
 
-pub returns-then-b-i : goal.returns-then-b-i
-returns-then-b-i c = let l = c in
-    let a = l.args in
-    sym (l.loop-i.invariant.2 ∙ less_short a.a.now a.b.now l.loop-i.i (omega arith) c.if-b-i.true)
-
-pub returns-then-a-i : goal.returns-then-a-i
-returns-then-a-i c = let l = c in
-    let a = l.args in
-    sym (l.loop-i.invariant.2 ∙ less_differs a.a.now a.b.now l.loop-i.i (omega arith) (omega arith) c.if-a-i.true)
-
-pub loop-i-preserved : goal.loop-i-preserved
-loop-i-preserved c = let l = c in
-    let a = l.args in
-    (omega arith, omega arith, l.loop-i.invariant.2 ∙ less_later a.a.now a.b.now l.loop-i.i (omega arith) (omega arith) c.if-a-i.false)
-
 pub returns : goal.returns
-returns c = let l = c in
-    let a = l.args in
-    sym (l.loop-i.invariant.2 ∙ less_left a.a.now a.b.now l.loop-i.i (omega arith))
+unfolding less
+returns c =
+    same_from_slice_cmp_tested nat_cmp is_lt less refl (λ _ _. refl) (λ _ _. refl) (grind (arith, nat_tests)) c.args.a.now c.args.b.now c.lt.result c.lt.ensures

@@ -2,12 +2,13 @@
 use Rattle.identifier.proofs.Rules.{split_short, split_colon, split_slash, counted, split_tested}
 use native.Mathlib.Omega.{arith}
 use Rattle.identifier.proofs.split_composite.Goals as goal
+use Rattle.identifier.proofs.split_composite.Goals.{then-text-lt27-via-then-text-lt27, then-text-lt27-via-else-text-lt27+then-text-ne58}
 
 pub returns-then-text-lt27 : goal.returns-then-text-lt27
-returns-then-text-lt27 c = split_short _ (omega arith)
-
-pub returns-then-text-ne58 : goal.returns-then-text-ne58
-returns-then-text-ne58 c = split_colon _ c.if-text-ne58.true
+returns-then-text-lt27 c = elim c.then-text-lt27.branch [
+  | then-text-lt27-via-then-text-lt27 w ↦ split_short _ (omega arith)
+  | then-text-lt27-via-else-text-lt27+then-text-ne58 w ↦ split_colon _ w.if-text-ne58.true
+]
 
 pub overflow_add-slash : goal.overflow_add-slash
 overflow_add-slash c = omega (arith, counted c.args.text.now c.count_before_slash-slash.result c.count_before_slash-slash.ensures)

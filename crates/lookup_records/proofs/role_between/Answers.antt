@@ -17,37 +17,37 @@ pub returns-then-tag-skipped-clause-inside : goal.returns-then-tag-skipped-claus
 unfolding is_looked_at
 returns-then-tag-skipped-clause-inside c = other_inside _ _
 
-pub returns-in-Record-clause-result_value : goal.returns-in-Record-clause-result_value
+pub returns-in-Ok-clause-result_value : goal.returns-in-Ok-clause-result_value
 unfolding is_looked_at
-returns-in-Record-clause-result_value c =
+returns-in-Ok-clause-result_value c =
     let b = c in
     let s = b.args.pack.now in
     let kept = role_kept pack_limit b.args.tag _ b.args.skipped c.if-tag-skipped.false in
     let ensured = c.read.ensures in
-    let given = c.in-Record.is in
+    let given = c.in-Ok.is in
     let read = sym (ap (answer_of s) given) ∙ ensured.result_value in
-    let role-is = role_there s c.in-Record.r ∙ role_read pack_limit b.args.tag _ kept.0 _ _ read in
+    let role-is = role_there s c.in-Ok.r ∙ role_read pack_limit b.args.tag _ kept.0 _ _ read in
     ap (role_in s) c.by_kind.ensures ∙ role-is ∙ sym kept.1
 
-pub returns-in-Record-clause-inside : goal.returns-in-Record-clause-inside
+pub returns-in-Ok-clause-inside : goal.returns-in-Ok-clause-inside
 unfolding is_looked_at
-returns-in-Record-clause-inside c =
+returns-in-Ok-clause-inside c =
     let b = c in
     let s = b.args.pack.now in
     let kept = role_kept pack_limit b.args.tag (part_at s b.args.value) b.args.skipped c.if-tag-skipped.false in
     let ensured = c.read.ensures in
-    let given = c.in-Record.is in
+    let given = c.in-Ok.is in
     let read = sym (ap (answer_of s) given) ∙ ensured.result_value in
-    let role-is = role_there s c.in-Record.r ∙ role_read pack_limit b.args.tag (part_at s b.args.value) kept.0 _ _ read in
+    let role-is = role_there s c.in-Ok.r ∙ role_read pack_limit b.args.tag (part_at s b.args.value) kept.0 _ _ read in
     rw c.by_kind.ensures (role_inside s b.args.value b.args.tag _ (ensured.inside.places _ given) read role-is)
 
-pub returns-in-Refused-clause-result_value : goal.returns-in-Refused-clause-result_value
+pub returns-in-Err-clause-result_value : goal.returns-in-Err-clause-result_value
 unfolding is_looked_at
-returns-in-Refused-clause-result_value c =
+returns-in-Err-clause-result_value c =
     let b = c in
     let kept = role_kept pack_limit b.args.tag _ b.args.skipped c.if-tag-skipped.false in
-    role_read pack_limit b.args.tag _ kept.0 _ _ (c.in-Refused.ensures.result_value) ∙ sym kept.1
+    role_read pack_limit b.args.tag _ kept.0 _ _ (c.in-Err.ensures.result_value) ∙ sym kept.1
 
-pub returns-in-Refused-clause-inside : goal.returns-in-Refused-clause-inside
+pub returns-in-Err-clause-inside : goal.returns-in-Err-clause-inside
 unfolding is_looked_at
-returns-in-Refused-clause-inside c = unreadable_inside _ _ _
+returns-in-Err-clause-inside c = unreadable_inside _ _ _

@@ -4,6 +4,7 @@ use mathlib.Core.Path.{◌≡◌, sym, ◌∙◌}
 use native.Mathlib.Omega.{arith}
 use lib.ListN.{length}
 use Rattle.slices.specs.Bytes.{AllBytes}
+use Rattle.msgpack.specs.Formats.{kind_index}
 use Rattle.msgpack.specs.Items.{head_read}
 use Rattle.msgpack.specs.Readers.{is_whole, content_at}
 use Rattle.msgpack.specs.ReaderLaws.{is_whole_lem}
@@ -12,13 +13,13 @@ use Rattle.msgpack.proofs.content_at.Goals as goal
 use Rattle.msgpack.proofs.content_at.Goals.{Then-is_whole}
 
 there : (c : Then-is_whole)
-    → is_whole c.args.kind (head_read c.head_at-h.result) (length c.args.s.now) ≡ true
+    → is_whole (kind_index c.args.kind) (head_read c.head_at-h.result) (length c.args.s.now) ≡ true
 there c = sym c.is_whole.ensures ∙ c.if-is_whole.true
 
 pub short_count-requires : goal.short_count-requires
 short_count-requires c =
     let h = c.head_at-h in
-    some_size c.args.kind c.args.s.now (head_read h.result) h.ensures.is (omega (arith, c.requires)) (is_whole_lem _ _ _ (there c)).of_kind
+    some_size (kind_index c.args.kind) c.args.s.now (head_read h.result) h.ensures.is (omega (arith, c.requires)) (is_whole_lem _ _ _ (there c)).of_kind
 
 pub returns-then-is_whole-clause-result_value : goal.returns-then-is_whole-clause-result_value
 unfolding content_at
@@ -30,7 +31,7 @@ unfolding content_at
 returns-then-is_whole-clause-short c =
     let h = c.head_at-h in
     let bytes : AllBytes c.args.s.now = record { below = λ i. (c.type_inv.s i).fits } in
-    c.short_count.ensures ∙ content_form c.args.kind c.args.s.now (head_read h.result) h.ensures.is bytes c.requires (sym c.is_whole.ensures ∙ c.if-is_whole.true)
+    c.short_count.ensures ∙ content_form (kind_index c.args.kind) c.args.s.now (head_read h.result) h.ensures.is bytes c.requires (sym c.is_whole.ensures ∙ c.if-is_whole.true)
 
 pub returns-else-is_whole-clause-result_value : goal.returns-else-is_whole-clause-result_value
 unfolding content_at

@@ -1,5 +1,8 @@
 -- `msgpack::count_at` meets its contract.
-use borrow.Author.Tests.{eq-eqb, ne_eqb}
+use borrow.Author.Tests.{eqb-true}
+use Rattle.std.proofs.Common.{◌≡◌, sym}
+use Rattle.msgpack.specs.Formats.{kind_index}
+use Rattle.msgpack.specs.KindLaws.{same_index}
 use mathlib.Core.Path.{◌∙◌}
 use native.Mathlib.Omega.{arith}
 use Rattle.slices.specs.Bytes.{AllBytes}
@@ -7,34 +10,32 @@ use Rattle.msgpack.specs.Items.{head_read}
 use Rattle.msgpack.specs.Readers.{count_at}
 use Rattle.msgpack.proofs.Forms.{some_size, counted_form}
 use Rattle.msgpack.proofs.count_at.Goals as goal
+use Rattle.msgpack.proofs.count_at.Goals.{Then-eq}
+
+of_kind : (c : Then-eq) → kind_index c.head_at-h.result.kind ≡ kind_index c.args.kind
+of_kind c = eqb-true _ _ (sym (c.if-eq.ensures ∙ same_index _ _))
 
 pub short_count-requires : goal.short_count-requires
 short_count-requires c =
     let h = c.head_at-h in
-    let a = c in
-    some_size a.args.kind a.args.s.now (head_read h.result) h.ensures.is (omega (arith, a.requires)) c.if-h-kind.true
+    some_size (kind_index c.args.kind) c.args.s.now (head_read h.result) h.ensures.is (omega (arith, c.requires)) (of_kind (goal.at.short_count-requires c).Then-eq)
 
-pub returns-then-h-kind-clause-result_value : goal.returns-then-h-kind-clause-result_value
+pub returns-then-eq-clause-result_value : goal.returns-then-eq-clause-result_value
 unfolding count_at
-returns-then-h-kind-clause-result_value c =
-    let t = c in
-    let h = t.head_at-h in
-    rw (← h.ensures.is, eq-eqb _ _ t.if-h-kind.true)
+returns-then-eq-clause-result_value c = rw (← c.head_at-h.ensures.is, sym (c.if-eq.ensures ∙ same_index _ _))
 
-pub returns-then-h-kind-clause-short : goal.returns-then-h-kind-clause-short
+pub returns-then-eq-clause-short : goal.returns-then-eq-clause-short
 unfolding count_at
-returns-then-h-kind-clause-short c =
-    let t = c in
-    let h = t.head_at-h in
-    let k = t in
-    let a = k in
-    let bytes : AllBytes a.args.s.now = record { below = λ i. (k.type_inv.s i).fits } in
-    c.short_count.ensures ∙ counted_form a.args.kind a.args.s.now (head_read h.result) h.ensures.is bytes a.requires t.if-h-kind.true
+returns-then-eq-clause-short c =
+    let h = c.head_at-h in
+    let bytes : AllBytes c.args.s.now = record { below = λ i. (c.type_inv.s i).fits } in
+    c.short_count.ensures
+    ∙ counted_form (kind_index c.args.kind) c.args.s.now (head_read h.result) h.ensures.is bytes c.requires (of_kind (goal.at.returns-then-eq-clause-short c).Then-eq)
 
-pub returns-else-h-kind-clause-result_value : goal.returns-else-h-kind-clause-result_value
+pub returns-else-eq-clause-result_value : goal.returns-else-eq-clause-result_value
 unfolding count_at
-returns-else-h-kind-clause-result_value c = rw (← c.head_at-h.ensures.is, ne_eqb _ _ c.if-h-kind.false)
+returns-else-eq-clause-result_value c = rw (← c.head_at-h.ensures.is, sym (c.if-eq.ensures ∙ same_index _ _))
 
-pub returns-else-h-kind-clause-short : goal.returns-else-h-kind-clause-short
+pub returns-else-eq-clause-short : goal.returns-else-eq-clause-short
 unfolding count_at
-returns-else-h-kind-clause-short c = rw (← c.head_at-h.ensures.is, ne_eqb _ _ c.if-h-kind.false)
+returns-else-eq-clause-short c = rw (← c.head_at-h.ensures.is, sym (c.if-eq.ensures ∙ same_index _ _))

@@ -1,34 +1,28 @@
--- `msgpack::fixed_holds` meets its contract: the tests are the definition's.
-use borrow.Author.Tests.{eq-eqb, ne_eqb, le-leb, lt-leb}
+-- `msgpack::fixed_holds` meets its contract: the arms are the definition's tests.
+use Rattle.std.proofs.Common.{⊎_elim}
 use Rattle.msgpack.specs.Short.{fixed_holds}
 use Rattle.msgpack.proofs.fixed_holds.Goals as goal
 
-pub returns-then-kind-eq-INTEGER : goal.returns-then-kind-eq-INTEGER
+pub returns-in-Integer : goal.returns-in-Integer
 unfolding fixed_holds
-returns-then-kind-eq-INTEGER c = rw (eq-eqb _ _ c.if-kind-eq-INTEGER.true)
+returns-in-Integer c = rw c.in-Integer.is
 
-pub returns-then-kind-eq-TEXT : goal.returns-then-kind-eq-TEXT
+pub returns-in-Text : goal.returns-in-Text
 unfolding fixed_holds
-returns-then-kind-eq-TEXT c = rw (ne_eqb _ _ c.if-kind-eq-INTEGER.false, eq-eqb _ _ c.if-kind-eq-TEXT.true)
+returns-in-Text c = rw c.in-Text.is
 
-pub returns-then-kind-eq-BINARY : goal.returns-then-kind-eq-BINARY
+pub returns-in-Binary : goal.returns-in-Binary
 unfolding fixed_holds
-returns-then-kind-eq-BINARY c = rw (ne_eqb _ _ c.if-kind-eq-INTEGER.false, ne_eqb _ _ c.if-kind-eq-TEXT.false, eq-eqb _ _ c.if-kind-eq-BINARY.true)
+returns-in-Binary c = rw c.in-Binary.is
 
-pub returns-then-kind-eq-EXTENSION : goal.returns-then-kind-eq-EXTENSION
+pub returns-in-Extension : goal.returns-in-Extension
 unfolding fixed_holds
-returns-then-kind-eq-EXTENSION c =
-    let b = c in
-    rw (ne_eqb _ _ b.if-kind-eq-INTEGER.false, ne_eqb _ _ b.if-kind-eq-TEXT.false, ne_eqb _ _ c.if-kind-eq-BINARY.false, eq-eqb _ _ c.if-kind-eq-EXTENSION.true)
+returns-in-Extension c = rw c.in-Extension.is
 
-pub returns-then-kind-ge-ARRAY : goal.returns-then-kind-ge-ARRAY
+pub returns-in-Array : goal.returns-in-Array
 unfolding fixed_holds
-returns-then-kind-ge-ARRAY c =
-    let b = c in
-    rw (ne_eqb _ _ b.if-kind-eq-INTEGER.false, ne_eqb _ _ b.if-kind-eq-TEXT.false, ne_eqb _ _ b.if-kind-eq-BINARY.false, ne_eqb _ _ c.if-kind-eq-EXTENSION.false, le-leb _ _ c.if-kind-ge-ARRAY.true)
+returns-in-Array c = ⊎_elim (λ e. rw e) (λ e. rw e) c.in-Array.is
 
-pub returns : goal.returns
+pub returns-in-Unused : goal.returns-in-Unused
 unfolding fixed_holds
-returns c =
-    let b = c in
-    rw (ne_eqb _ _ b.if-kind-eq-INTEGER.false, ne_eqb _ _ b.if-kind-eq-TEXT.false, ne_eqb _ _ b.if-kind-eq-BINARY.false, ne_eqb _ _ c.if-kind-eq-EXTENSION.false, lt-leb _ _ c.if-kind-ge-ARRAY.false)
+returns-in-Unused c = ⊎_elim (λ e. rw e) (⊎_elim (λ e. rw e) (⊎_elim (λ e. rw e) (λ e. rw e))) c.in-Unused.is

@@ -1,9 +1,11 @@
 -- `msgpack::items_of` meets its contract.
-use borrow.Author.Tests.{eq-eqb, ne_eqb}
+use Rattle.std.proofs.Common.{sym, ◌∙◌, arith}
+use Rattle.msgpack.specs.declared.Kind.TheVariants.{Map}
+use Rattle.msgpack.specs.KindLaws.{same_index}
 use Rattle.msgpack.proofs.items_of.Goals as goal
 
-pub returns-then-kind-eq-MAP : goal.returns-then-kind-eq-MAP
-returns-then-kind-eq-MAP c = rw (eq-eqb _ _ c.if-kind-eq-MAP.true)
+pub returns-then-eq : goal.returns-then-eq
+returns-then-eq c h = rw (sym (c.if-eq.ensures ∙ same_index c.args.kind Map)) (omega arith)
 
-pub returns-else-kind-eq-MAP : goal.returns-else-kind-eq-MAP
-returns-else-kind-eq-MAP c = rw (ne_eqb _ _ c.if-kind-eq-MAP.false)
+pub returns-else-eq : goal.returns-else-eq
+returns-else-eq c h = rw (sym (c.if-eq.ensures ∙ same_index c.args.kind Map))

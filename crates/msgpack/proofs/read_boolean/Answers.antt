@@ -10,13 +10,13 @@ use Rattle.msgpack.proofs.read_boolean.Goals as goal
 pub bounds-s-0 : goal.bounds-s-0
 bounds-s-0 c =
     let h = c.head_at-h in
-    let k = (is_whole_lem boolean_kind (head_read h.result) _ (sym c.is_whole.ensures ∙ c.if-is_whole.true)).of_kind in
+    let k = (is_whole_lem boolean_kind (head_read h.result) _ (sym c.is_whole.ensures ∙ c.if-not-is_whole.false)).of_kind in
     has_byte c.args.s.now (rw (← h.ensures.is, k) (omega arith))
 
-pub returns-then-is_whole : goal.returns-then-is_whole
+pub returns-then-not-is_whole : goal.returns-then-not-is_whole
 unfolding read_boolean
-returns-then-is_whole c = rw (← c.head_at-h.ensures.is, sym c.is_whole.ensures ∙ c.if-is_whole.true)
+returns-then-not-is_whole c = rw (← c.head_at-h.ensures.is, sym c.is_whole.ensures ∙ c.if-not-is_whole.true)
 
-pub returns-else-is_whole : goal.returns-else-is_whole
+pub returns : goal.returns
 unfolding read_boolean
-returns-else-is_whole c = rw (← c.head_at-h.ensures.is, sym c.is_whole.ensures ∙ c.if-is_whole.false)
+returns c = rw (← c.head_at-h.ensures.is, sym c.is_whole.ensures ∙ c.if-not-is_whole.false)

@@ -11,7 +11,6 @@ use Rattle.msgpack.specs.Readers.{read_integer}
 use Rattle.msgpack.specs.ReaderLaws.{IsWhole, is_whole_lem, has_byte}
 use Rattle.msgpack.proofs.Integers.{integer_narrow, part_lt}
 use Rattle.msgpack.proofs.Forms.{integer_form}
-use Rattle.std.proofs.Common.{refl}
 use Rattle.msgpack.proofs.read_integer.Goals as goal
 use Rattle.msgpack.proofs.read_integer.Goals.{Then-is_whole}
 
@@ -38,26 +37,26 @@ bounds-s-0 c =
 pub integer_of-requires : goal.integer_of-requires
 integer_of-requires c =
     let w = (goal.at.integer_of-requires c).Then-is_whole in
-    let n : c.in-Read.n ≡ big (take c.head_at-h.result.count (drop c.head_at-h.result.size c.args.s.now)) = read_number big _ _ _ (within w) _ _ c.in-Read.ensures refl in
+    let n : c.in_ok-n.n ≡ big (take c.head_at-h.result.count (drop c.head_at-h.result.size c.args.s.now)) = read_number big _ _ _ (within w) _ _ (c.read_big.ensures) c.in_ok-n.was in
     ((within w).narrow, rw n (part_lt _ _ _ (bytes w) (within w).inside))
 
-pub returns-in-Read-clause-result_value : goal.returns-in-Read-clause-result_value
+pub returns-in_ok-n-clause-result_value : goal.returns-in_ok-n-clause-result_value
 unfolding read_integer
-returns-in-Read-clause-result_value c =
-    let n : c.in-Read.n ≡ big (take c.head_at-h.result.count (drop c.head_at-h.result.size c.args.s.now)) =
-    read_number big _ _ _ (within (goal.at.returns-in-Read-clause-result_value c).Then-is_whole) _ _ c.in-Read.ensures refl in
+returns-in_ok-n-clause-result_value c =
+    let n : c.in_ok-n.n ≡ big (take c.head_at-h.result.count (drop c.head_at-h.result.size c.args.s.now)) =
+    read_number big _ _ _ (within (goal.at.returns-in_ok-n-clause-result_value c).Then-is_whole) _ _ (c.read_big.ensures) c.in_ok-n.was in
     c.integer_of.ensures.value ∙ rw (← c.head_at-h.ensures.is, sym c.is_whole.ensures ∙ c.if-is_whole.true, n)
 
-pub returns-in-Read-clause-short : goal.returns-in-Read-clause-short
+pub returns-in_ok-n-clause-short : goal.returns-in_ok-n-clause-short
 unfolding read_integer
-returns-in-Read-clause-short c =
-    let w = (goal.at.returns-in-Read-clause-short c).Then-is_whole in
+returns-in_ok-n-clause-short c =
+    let w = (goal.at.returns-in_ok-n-clause-short c).Then-is_whole in
     let h = c.head_at-h in
-    let n : c.in-Read.n ≡ big (take h.result.count (drop h.result.size c.args.s.now)) = read_number big _ _ _ (within w) _ _ c.in-Read.ensures refl in
+    let n : c.in_ok-n.n ≡ big (take h.result.count (drop h.result.size c.args.s.now)) = read_number big _ _ _ (within w) _ _ (c.read_big.ensures) c.in_ok-n.was in
     c.integer_of.ensures.form ∙ integer_form c.args.s.now (bytes w) (head_read h.result) h.ensures.is (sym c.is_whole.ensures ∙ c.if-is_whole.true) _ n
 
-pub returns-in-Missing : goal.returns-in-Missing
-returns-in-Missing c = absurd (read_missing big _ _ _ (within (goal.at.returns-in-Missing c).Then-is_whole) _ c.in-Missing.ensures refl)
+pub returns-in_err-n : goal.returns-in_err-n
+returns-in_err-n c = absurd (read_missing big _ _ _ (within (goal.at.returns-in_err-n c).Then-is_whole) _ c.read_big.ensures c.in_err-n.was)
 
 pub returns-else-is_whole-clause-result_value : goal.returns-else-is_whole-clause-result_value
 unfolding read_integer

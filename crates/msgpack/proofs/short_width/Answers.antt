@@ -1,6 +1,7 @@
 -- `msgpack::short_width` meets its contract: the tests are the definition's.
 use mathlib.Core.Path.{sym, ◌∙◌}
 use borrow.Author.Tests.{lt-ltb, le-ltb}
+use Rattle.msgpack.specs.KindLaws.{container_kind, flat_kind}
 use Rattle.msgpack.specs.Short.{fits_in, short_width}
 use Rattle.msgpack.proofs.short_width.Goals as goal
 
@@ -8,17 +9,17 @@ pub returns-then-fixed_holds : goal.returns-then-fixed_holds
 unfolding short_width
 returns-then-fixed_holds c = rw (sym c.fixed_holds.ensures ∙ c.if-fixed_holds.true)
 
-pub returns-then-kind-lt-ARRAY : goal.returns-then-kind-lt-ARRAY
+pub returns-in_default : goal.returns-in_default
 unfolding short_width fits_in
-returns-then-kind-lt-ARRAY c =
+returns-in_default c =
     let b = c in
-    rw (sym b.fixed_holds.ensures ∙ b.if-fixed_holds.false, lt-ltb _ _ c.if-n-lt256.true, lt-ltb _ _ c.if-kind-lt-ARRAY.true)
+    rw (sym b.fixed_holds.ensures ∙ b.if-fixed_holds.false, lt-ltb _ _ c.if-n-lt256.true, lt-ltb _ _ (flat_kind _ c.in_default.not-Array c.in_default.not-Map))
 
-pub returns-else-kind-lt-ARRAY : goal.returns-else-kind-lt-ARRAY
+pub returns-in-Array : goal.returns-in-Array
 unfolding short_width fits_in
-returns-else-kind-lt-ARRAY c =
+returns-in-Array c =
     let b = c in
-    rw (sym b.fixed_holds.ensures ∙ b.if-fixed_holds.false, lt-ltb _ _ c.if-n-lt256.true, le-ltb _ _ c.if-kind-lt-ARRAY.false)
+    rw (sym b.fixed_holds.ensures ∙ b.if-fixed_holds.false, lt-ltb _ _ c.if-n-lt256.true, le-ltb _ _ (container_kind _ c.in-Array.is))
 
 pub returns-then-n-lt65536 : goal.returns-then-n-lt65536
 unfolding short_width fits_in

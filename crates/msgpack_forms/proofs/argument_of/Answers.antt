@@ -1,29 +1,25 @@
--- `msgpack_forms::argument_of` meets its contract: the tests are the definition's.
-use native.Mathlib.Omega.{arith}
-use borrow.Author.Tests.{eq-eqb, ne_eqb, le-leb, lt-leb}
+-- `msgpack_forms::argument_of` meets its contract: the arms are the definition's tests.
+use Rattle.std.proofs.Common.{◌≡◌, ⊎_elim, ◌∙◌, refl, Bool, true, false, cond}
+use mir.Val.{bool_byte}
 use Rattle.msgpack_forms.specs.Items.{argument_of}
 use Rattle.msgpack_forms.proofs.argument_of.Goals as goal
 
-pub returns-then-b-eq195 : goal.returns-then-b-eq195
-unfolding argument_of
-returns-then-b-eq195 c = rw (eq-eqb _ _ c.if-kind-eq-BOOLEAN.true, eq-eqb _ _ c.if-b-eq195.true)
+by_flag : (t : Bool) → bool_byte t ≡ cond t 1 0
+by_flag true = refl
+by_flag false = refl
 
-pub returns-else-b-eq195 : goal.returns-else-b-eq195
+pub returns-in-Boolean : goal.returns-in-Boolean
 unfolding argument_of
-returns-else-b-eq195 c = rw (eq-eqb _ _ c.if-kind-eq-BOOLEAN.true, ne_eqb _ _ c.if-b-eq195.false)
+returns-in-Boolean c = rw c.in-Boolean.is (c.from.ensures ∙ by_flag _)
 
-pub returns-then-count-gt0 : goal.returns-then-count-gt0
+pub returns-in-Extension : goal.returns-in-Extension
 unfolding argument_of
-returns-then-count-gt0 c = rw (ne_eqb _ _ c.if-kind-eq-BOOLEAN.false, eq-eqb _ _ c.if-kind-eq-EXTENSION.true)
+returns-in-Extension c = rw (c.in-Extension.is, c.saturating_sub.ensures)
 
-pub returns-else-count-gt0 : goal.returns-else-count-gt0
+pub returns-in-Text : goal.returns-in-Text
 unfolding argument_of
-returns-else-count-gt0 c = rw (ne_eqb _ _ c.if-kind-eq-BOOLEAN.false, eq-eqb _ _ c.if-kind-eq-EXTENSION.true) (omega arith)
+returns-in-Text c = ⊎_elim (λ e. rw e) (⊎_elim (λ e. rw e) (⊎_elim (λ e. rw e) (λ e. rw e))) c.in-Text.is
 
-pub returns-then-kind-ge-TEXT : goal.returns-then-kind-ge-TEXT
+pub returns-in-Unused : goal.returns-in-Unused
 unfolding argument_of
-returns-then-kind-ge-TEXT c = rw (ne_eqb _ _ c.if-kind-eq-BOOLEAN.false, ne_eqb _ _ c.if-kind-eq-EXTENSION.false, le-leb _ _ c.if-kind-ge-TEXT.true)
-
-pub returns-else-kind-ge-TEXT : goal.returns-else-kind-ge-TEXT
-unfolding argument_of
-returns-else-kind-ge-TEXT c = rw (ne_eqb _ _ c.if-kind-eq-BOOLEAN.false, ne_eqb _ _ c.if-kind-eq-EXTENSION.false, lt-leb _ _ c.if-kind-ge-TEXT.false)
+returns-in-Unused c = ⊎_elim (λ e. rw e) (⊎_elim (λ e. rw e) (⊎_elim (λ e. rw e) (λ e. rw e))) c.in-Unused.is

@@ -4,8 +4,8 @@ use lib.ListN.{length}
 use Rattle.pack.proofs.Passes.{Going}
 use Rattle.pack.proofs.check.Given as goal
 
-abbrev pub invariant-loop-f : goal.invariant-loop-f
-invariant-loop-f l = Going l.pack l.at l.count
+abbrev pub invariant-loop-h : goal.invariant-loop-h
+invariant-loop-h l = Going l.pack l.at l.count
 
-abbrev pub decreases-loop-f : goal.decreases-loop-f
-decreases-loop-f l = length l.pack - l.at
+abbrev pub decreases-loop-h : goal.decreases-loop-h
+decreases-loop-h l = length l.pack - l.at

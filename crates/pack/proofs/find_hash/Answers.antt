@@ -1,20 +1,13 @@
--- A turn either finds the hash at i, or goes on to the next place; past the last the answer is none.
-use Rattle.std.proofs.Common.{◌∙◌, length, sym, refl, add-one, arith}
-use Rattle.pack.specs.Search.{hash_at, first_here, first_later, first_nowhere}
+-- `pack::find_hash` meets its contract: the library finds the first entry that the closure accepts.
+use Rattle.std.proofs.Common.{◌≡◌, rules}
+use Rattle.std.proofs.lemmas.Iterator.{IsFirst-from_position, YieldsList-from_slice}
+use borrow.Author.Tests.{tests}
+use Rattle.pack.proofs.Search.{position_is}
 use Rattle.pack.proofs.find_hash.Goals as goal
 
-pub returns-then-entries-i : goal.returns-then-entries-i
-returns-then-entries-i c =
-    sym (c.loop-i.invariant.so_far ∙ first_here (hash_at c.args.entries.now) c.args.hash (length c.args.entries.now) c.loop-i.i c.loop-i-test.true c.if-entries-i.true)
-
-pub loop-i-preserved : goal.loop-i-preserved
-loop-i-preserved c = record {
-  counted = refl;
-  inside = omega arith;
-  so_far =
-      c.loop-i.invariant.so_far
-      ∙ rw add-one (first_later (hash_at c.args.entries.now) c.args.hash (length c.args.entries.now) c.loop-i.i c.loop-i-test.true c.if-entries-i.false);
-}
-
 pub returns : goal.returns
-returns c = sym (c.loop-i.invariant.so_far ∙ first_nowhere (hash_at c.args.entries.now) c.args.hash (length c.args.entries.now) c.loop-i.i (omega arith))
+returns c =
+    let a = c.args in
+    position_is a.hash a.entries.now _
+    (IsFirst-from_position _ _ _ (λ e. e.hash ≡ a.hash) (λ e. e.hash ≡ a.hash → ⊥) c.position.ensures.ran (YieldsList-from_slice a.entries.now c.iter.ensures.rest)
+    (λ x q k. search (rules, tests)) (λ x q k. search (rules, tests)))

@@ -4,4 +4,4 @@ use Rattle.pack.proofs.listed_at.Goals as goal
 
 pub returns : goal.returns
 unfolding listed_at
-returns c = rw (← c.pass_at-passed.ensures)
+returns c = rw (← c.pass_at-passed.ensures, c.entry_at.ensures)

@@ -1,7 +1,7 @@
 -- `pack_list::entry_at` meets its contract: one pass tells where the values stand, and no text `p` stands in what is no map.
 use Prim.Native.Nat.{ℕ, ◌≤◌}
 use mathlib.Core.List.{List}
-use mathlib.Core.Option.{none}
+use Rattle.std.specs.Prelude.{None}
 use mathlib.Core.Path.{refl, sym, ap, subst, ◌∙◌}
 use native.Mathlib.Omega.{arith}
 use lib.ListN.{length, drop, length-drop}
@@ -26,7 +26,7 @@ returns-then-not-pairs-clause-result_value c =
     let p = c in
     let a = p in
     let broken = no_entry_map _ _ (pairs_read (goal.at.returns-then-not-pairs-clause-result_value p).After-read_pairs-pairs) a.requires (not-true _ c.if-not-pairs.true) in
-    no_entry_told _ none _ _ _ _ (pack_broken _ broken) refl refl refl refl refl
+    no_entry_told _ None _ _ _ _ (pack_broken _ broken) refl refl refl refl refl
 
 pub returns-then-not-pairs-clause-inside : goal.returns-then-not-pairs-clause-inside
 returns-then-not-pairs-clause-inside c = none_inside _ _

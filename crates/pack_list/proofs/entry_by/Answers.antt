@@ -1,12 +1,12 @@
 -- `pack_list::entry_by` meets its contract: what stands under the keys in turn, none where one is not as described.
 use Prim.Native.Nat.{ℕ}
 use mathlib.Core.List.{List, []}
-use mathlib.Core.Option.{none, some}
+use Rattle.std.specs.Prelude.{None, Some}
 use mathlib.Core.Path.{◌≡◌, refl, sym, ap, ◌∙◌}
 use native.Mathlib.Omega.{arith}
 use lib.ListN.{drop, length-drop}
 use Rattle.slices.specs.Places.{part_at}
-use Rattle.primary.specs.Answers.{text_of, place_of}
+use Rattle.primary.specs.Answers.{text_of}
 use Rattle.primary.specs.Parts.{text_under}
 use Rattle.msgpack.specs.Lookup.{at_place, if_there}
 use Rattle.msgpack.specs.PairLaws.{told_inside}
@@ -14,11 +14,11 @@ use Rattle.msgpack.specs.Readers.{read_integer}
 use Rattle.msgpack.specs.Views.{byte_view}
 use Rattle.value.specs.Fields.{read_natural}
 use Rattle.pack_list.specs.Lists.{pack_key, source_key, stored_key, lengths_key, deltas_key, each_of}
-use Rattle.pack_list.specs.Answers.{range_of, range_told, items_in, numbers_of, pack_place}
+use Rattle.pack_list.specs.Answers.{range_told, items_in, numbers_of, pack_place}
 use Rattle.pack_list.proofs.Ranges.{read_told}
 use Rattle.pack_list.proofs.Entries.{value_at_lem, no_pack, pack_read, pack_placed, RangeUnder, range_under_lem, no_range_under, list_under, lengths_under, deltas_under, no_entry_told, no_deltas_told, entry_told_lem, numbers_placed, entry_inside, none_inside}
 use Rattle.pack_list.proofs.entry_by.Goals as goal
-use Rattle.pack_list.proofs.entry_by.Goals.{After-numbers_under, After-numbers_under-2, After-range_under, After-range_under-2, After-text_at, In-At, In-Numbers, In-Numbers-numbers_under, In-Range, In-Range-range_under, Start}
+use Rattle.pack_list.proofs.entry_by.Goals.{After-numbers_under, After-numbers_under-2, After-range_under, After-range_under-2, After-text_at, In_ok-pack, In_ok-lengths, In_ok-deltas, In_ok-source, In_ok-stored, Start}
 
 abbrev bytes : Start → List ℕ
 bytes a = a.args.part.now
@@ -48,7 +48,7 @@ pub returns-then-places-eq0-clause-result_value : goal.returns-then-places-eq0-c
 returns-then-places-eq0-clause-result_value c =
     let a = c in
     let missing = no_pack (bytes (goal.at.returns-then-places-eq0-clause-result_value c).Start) a.args.at a.args.places.pack a.requires.1.pack c.if-places-eq0.true in
-    no_entry_told _ none _ _ _ _ missing refl refl refl refl refl
+    no_entry_told _ None _ _ _ _ missing refl refl refl refl refl
 
 pub returns-then-places-eq0-clause-inside : goal.returns-then-places-eq0-clause-inside
 returns-then-places-eq0-clause-inside c = none_inside _ _
@@ -62,82 +62,82 @@ overflow_add-at c =
 text_read : (c : After-text_at) → text_under byte_view pack_key (map_at (at_pack c)) ≡ text_of (bytes (at_pack c)) c.text_at.result
 text_read c = pack_read _ _ _ (at_pack c).requires.1.pack c.if-places-eq0.false ∙ sym c.text_at.ensures.result_value
 
-place_read : (c : After-text_at) → place_of c.text_at.result ≡ pack_place (bytes (at_pack c)) (at_pack c).args.at
+place_read : (c : After-text_at) → c.text_at.result ≡ pack_place (bytes (at_pack c)) (at_pack c).args.at
 place_read c = c.text_at.ensures.place ∙ pack_placed _ _ _ (at_pack c).requires.1.pack c.if-places-eq0.false
 
-pub returns-in_default-clause-result_value : goal.returns-in_default-clause-result_value
-returns-in_default-clause-result_value c =
+pub returns-in_err-pack-clause-result_value : goal.returns-in_err-pack-clause-result_value
+returns-in_err-pack-clause-result_value c =
     let d = c in
-    let missing = text_read (goal.at.returns-in_default-clause-result_value d).After-text_at ∙ ap (text_of (bytes (at_pack (goal.at.returns-in_default-clause-result_value c).After-text_at))) c.in_default.is in
-    no_entry_told _ none _ _ _ _ missing refl refl refl refl refl
+    let missing = text_read (goal.at.returns-in_err-pack-clause-result_value d).After-text_at ∙ ap (text_of (bytes (at_pack (goal.at.returns-in_err-pack-clause-result_value c).After-text_at))) c.in_err-pack.was in
+    rw c.from_residual.ensures (no_entry_told _ None _ _ _ _ missing refl refl refl refl refl)
 
-pub returns-in_default-clause-inside : goal.returns-in_default-clause-inside
-returns-in_default-clause-inside c = none_inside _ _
+pub returns-in_err-pack-clause-inside : goal.returns-in_err-pack-clause-inside
+returns-in_err-pack-clause-inside c = rw c.from_residual.ensures (none_inside _ _)
 
-text_read-2 : (c : In-At) → text_under byte_view pack_key (map_at (at_pack (goal.at.In-At c).After-text_at)) ≡ text_of (bytes (at_pack (goal.at.In-At c).After-text_at)) c.text_at.result
-text_read-2 c = pack_read _ _ _ (at_pack (goal.at.In-At c).After-text_at).requires.1.pack c.if-places-eq0.false ∙ sym c.text_at.ensures.result_value
+text_read-2 : (c : In_ok-pack) → text_under byte_view pack_key (map_at (at_pack (goal.at.In_ok-pack c).After-text_at)) ≡ text_of (bytes (at_pack (goal.at.In_ok-pack c).After-text_at)) c.text_at.result
+text_read-2 c = pack_read _ _ _ (at_pack (goal.at.In_ok-pack c).After-text_at).requires.1.pack c.if-places-eq0.false ∙ sym c.text_at.ensures.result_value
 
-pack : (c : In-At)
-    → text_under byte_view pack_key (map_at (at_pack (goal.at.In-At c).After-text_at))
-    ≡ some (part_at (bytes (at_pack (goal.at.In-At c).After-text_at)) c.in-At.pack)
-pack c = let d = c in text_read-2 d ∙ ap (text_of (bytes (at_pack (goal.at.In-At c).After-text_at))) c.in-At.is
+pack : (c : In_ok-pack)
+    → text_under byte_view pack_key (map_at (at_pack (goal.at.In_ok-pack c).After-text_at))
+    ≡ Some (part_at (bytes (at_pack (goal.at.In_ok-pack c).After-text_at)) c.in_ok-pack.pack)
+pack c = let d = c in text_read-2 d ∙ ap (text_of (bytes (at_pack (goal.at.In_ok-pack c).After-text_at))) c.in_ok-pack.was
 
 -- ---- the ranges
 
 pub range_under-requires : goal.range_under-requires
 range_under-requires c = let a = at_pack (goal.at.range_under-requires c).After-text_at in (a.requires.0, value_at_lem source_key _ _ a.requires.1.source)
 
-source_read : (c : After-range_under) → at_place none range_told (byte_view.under source_key (map_at (at_source c))) ≡ range_of c.range_under.result
+source_read : (c : After-range_under) → at_place None range_told (byte_view.under source_key (map_at (at_source c))) ≡ c.range_under.result
 source_read c =
     let a = at_source c in
-    read_told none range_told source_key (map_at a) a.args.places.source a.requires.1.source ∙ sym c.range_under.ensures
+    read_told None range_told source_key (map_at a) a.args.places.source a.requires.1.source ∙ sym c.range_under.ensures
 
-pub returns-in_default-range_under-clause-result_value : goal.returns-in_default-range_under-clause-result_value
-returns-in_default-range_under-clause-result_value c =
+pub returns-in_err-source-clause-result_value : goal.returns-in_err-source-clause-result_value
+returns-in_err-source-clause-result_value c =
     let d = c in
-    let missing = no_range_under (byte_view.under source_key (map_at (at_source (goal.at.returns-in_default-range_under-clause-result_value c).After-range_under))) (source_read (goal.at.returns-in_default-range_under-clause-result_value d).After-range_under ∙ ap range_of c.in_default-range_under.is) in
-    no_entry_told _ (some _) none _ _ _ (pack (goal.at.returns-in_default-range_under-clause-result_value d).In-At) missing refl refl refl refl
+    let missing = no_range_under (byte_view.under source_key (map_at (at_source (goal.at.returns-in_err-source-clause-result_value c).After-range_under))) (source_read (goal.at.returns-in_err-source-clause-result_value d).After-range_under ∙ c.in_err-source.was) in
+    rw c.from_residual-in_err-source.ensures (no_entry_told _ (Some _) None _ _ _ (pack (goal.at.returns-in_err-source-clause-result_value d).In_ok-pack) missing refl refl refl refl)
 
-pub returns-in_default-range_under-clause-inside : goal.returns-in_default-range_under-clause-inside
-returns-in_default-range_under-clause-inside c = none_inside _ _
+pub returns-in_err-source-clause-inside : goal.returns-in_err-source-clause-inside
+returns-in_err-source-clause-inside c = rw c.from_residual-in_err-source.ensures (none_inside _ _)
 
-source_read-2 : (c : In-Range) → at_place none range_told (byte_view.under source_key (map_at (at_source (goal.at.In-Range c).After-range_under))) ≡ range_of c.range_under.result
+source_read-2 : (c : In_ok-source) → at_place None range_told (byte_view.under source_key (map_at (at_source (goal.at.In_ok-source c).After-range_under))) ≡ c.range_under.result
 source_read-2 c =
-    let a = at_source (goal.at.In-Range c).After-range_under in
-    read_told none range_told source_key (map_at a) a.args.places.source a.requires.1.source ∙ sym c.range_under.ensures
+    let a = at_source (goal.at.In_ok-source c).After-range_under in
+    read_told None range_told source_key (map_at a) a.args.places.source a.requires.1.source ∙ sym c.range_under.ensures
 
-source : (c : In-Range)
-    → RangeUnder (byte_view.under source_key (map_at (at_source (goal.at.In-Range c).After-range_under))) c.in-Range.source
-    c.in-Range.twice
-source c = range_under_lem _ _ _ (source_read-2 c ∙ ap range_of c.in-Range.is)
+source : (c : In_ok-source)
+    → RangeUnder (byte_view.under source_key (map_at (at_source (goal.at.In_ok-source c).After-range_under))) c.in_ok-source.source
+    c.in_ok-source.twice
+source c = range_under_lem _ _ _ (source_read-2 c ∙ c.in_ok-source.was)
 
 pub range_under-requires-2 : goal.range_under-requires-2
 range_under-requires-2 c = let a = at_source (goal.at.range_under-requires-2 c).After-range_under in (a.requires.0, value_at_lem stored_key _ _ a.requires.1.stored)
 
-stored_read : (c : After-range_under-2) → at_place none range_told (byte_view.under stored_key (map_at (at_stored c))) ≡ range_of c.range_under-2.result
+stored_read : (c : After-range_under-2) → at_place None range_told (byte_view.under stored_key (map_at (at_stored c))) ≡ c.range_under-2.result
 stored_read c =
     let a = at_stored c in
-    read_told none range_told stored_key (map_at a) a.args.places.stored a.requires.1.stored ∙ sym c.range_under-2.ensures
+    read_told None range_told stored_key (map_at a) a.args.places.stored a.requires.1.stored ∙ sym c.range_under-2.ensures
 
-pub returns-in_default-range_under-2-clause-result_value : goal.returns-in_default-range_under-2-clause-result_value
-returns-in_default-range_under-2-clause-result_value c =
+pub returns-in_err-stored-clause-result_value : goal.returns-in_err-stored-clause-result_value
+returns-in_err-stored-clause-result_value c =
     let d = c in
     let k = d in
-    let missing = no_range_under (byte_view.under stored_key (map_at (at_stored (goal.at.returns-in_default-range_under-2-clause-result_value c).After-range_under-2))) (stored_read (goal.at.returns-in_default-range_under-2-clause-result_value d).After-range_under-2 ∙ ap range_of c.in_default-range_under-2.is) in
-    no_entry_told _ (some _) (some _) none _ _ (pack (goal.at.returns-in_default-range_under-2-clause-result_value k).In-At) (source (goal.at.returns-in_default-range_under-2-clause-result_value k).In-Range).range missing refl refl refl
+    let missing = no_range_under (byte_view.under stored_key (map_at (at_stored (goal.at.returns-in_err-stored-clause-result_value c).After-range_under-2))) (stored_read (goal.at.returns-in_err-stored-clause-result_value d).After-range_under-2 ∙ c.in_err-stored.was) in
+    rw c.from_residual-in_err-stored.ensures (no_entry_told _ (Some _) (Some _) None _ _ (pack (goal.at.returns-in_err-stored-clause-result_value k).In_ok-pack) (source (goal.at.returns-in_err-stored-clause-result_value k).In_ok-source).range missing refl refl refl)
 
-pub returns-in_default-range_under-2-clause-inside : goal.returns-in_default-range_under-2-clause-inside
-returns-in_default-range_under-2-clause-inside c = none_inside _ _
+pub returns-in_err-stored-clause-inside : goal.returns-in_err-stored-clause-inside
+returns-in_err-stored-clause-inside c = rw c.from_residual-in_err-stored.ensures (none_inside _ _)
 
-stored_read-2 : (c : In-Range-range_under) → at_place none range_told (byte_view.under stored_key (map_at (at_stored (goal.at.In-Range-range_under c).After-range_under-2))) ≡ range_of c.range_under-2.result
+stored_read-2 : (c : In_ok-stored) → at_place None range_told (byte_view.under stored_key (map_at (at_stored (goal.at.In_ok-stored c).After-range_under-2))) ≡ c.range_under-2.result
 stored_read-2 c =
-    let a = at_stored (goal.at.In-Range-range_under c).After-range_under-2 in
-    read_told none range_told stored_key (map_at a) a.args.places.stored a.requires.1.stored ∙ sym c.range_under-2.ensures
+    let a = at_stored (goal.at.In_ok-stored c).After-range_under-2 in
+    read_told None range_told stored_key (map_at a) a.args.places.stored a.requires.1.stored ∙ sym c.range_under-2.ensures
 
-stored : (c : In-Range-range_under)
-    → RangeUnder (byte_view.under stored_key (map_at (at_stored (goal.at.In-Range-range_under c).After-range_under-2))) c.in-Range-range_under.stored
-    c.in-Range-range_under.again
-stored c = range_under_lem _ _ _ (stored_read-2 c ∙ ap range_of c.in-Range-range_under.is)
+stored : (c : In_ok-stored)
+    → RangeUnder (byte_view.under stored_key (map_at (at_stored (goal.at.In_ok-stored c).After-range_under-2))) c.in_ok-stored.stored
+    c.in_ok-stored.again
+stored c = range_under_lem _ _ _ (stored_read-2 c ∙ c.in_ok-stored.was)
 
 -- ---- the arrays
 
@@ -149,35 +149,35 @@ lengths_read_lem : (c : After-numbers_under)
 unfolding read_natural
 lengths_read_lem c =
     let a = at_lengths c in
-    let items = read_told (some []) byte_view.items lengths_key (map_at a) a.args.places.lengths a.requires.1.lengths in
+    let items = read_told (Some []) byte_view.items lengths_key (map_at a) a.args.places.lengths a.requires.1.lengths in
     list_under read_natural (byte_view.under lengths_key (map_at a)) ∙ ap (λ o. if_there o (each_of read_natural)) (items ∙ sym c.numbers_under.ensures.result_value)
 
-pub returns-in_default-numbers_under-clause-result_value : goal.returns-in_default-numbers_under-clause-result_value
-returns-in_default-numbers_under-clause-result_value c =
+pub returns-in_err-lengths-clause-result_value : goal.returns-in_err-lengths-clause-result_value
+returns-in_err-lengths-clause-result_value c =
     let d = c in
     let k = d in
     let l = k in
-    let p = pack (goal.at.returns-in_default-numbers_under-clause-result_value l).In-At in
-    let missing = lengths_read_lem (goal.at.returns-in_default-numbers_under-clause-result_value d).After-numbers_under ∙ ap (λ r. if_there (numbers_of (bytes (at_lengths (goal.at.returns-in_default-numbers_under-clause-result_value c).After-numbers_under)) r) (each_of read_natural)) c.in_default-numbers_under.is in
-    no_entry_told _ (some _) (some _) (some _) none _ p (source (goal.at.returns-in_default-numbers_under-clause-result_value l).In-Range).range (stored (goal.at.returns-in_default-numbers_under-clause-result_value k).In-Range-range_under).range missing refl refl
+    let p = pack (goal.at.returns-in_err-lengths-clause-result_value l).In_ok-pack in
+    let missing = lengths_read_lem (goal.at.returns-in_err-lengths-clause-result_value d).After-numbers_under ∙ ap (λ r. if_there (numbers_of (bytes (at_lengths (goal.at.returns-in_err-lengths-clause-result_value c).After-numbers_under)) r) (each_of read_natural)) c.in_err-lengths.was in
+    rw c.from_residual-in_err-lengths.ensures (no_entry_told _ (Some _) (Some _) (Some _) None _ p (source (goal.at.returns-in_err-lengths-clause-result_value l).In_ok-source).range (stored (goal.at.returns-in_err-lengths-clause-result_value k).In_ok-stored).range missing refl refl)
 
-pub returns-in_default-numbers_under-clause-inside : goal.returns-in_default-numbers_under-clause-inside
-returns-in_default-numbers_under-clause-inside c = none_inside _ _
+pub returns-in_err-lengths-clause-inside : goal.returns-in_err-lengths-clause-inside
+returns-in_err-lengths-clause-inside c = rw c.from_residual-in_err-lengths.ensures (none_inside _ _)
 
-lengths_read_lem-2 : (c : In-Numbers)
-    → lengths_under (map_at (at_lengths (goal.at.In-Numbers c).After-numbers_under)) ≡ if_there (numbers_of (bytes (at_lengths (goal.at.In-Numbers c).After-numbers_under)) c.numbers_under.result) (each_of read_natural)
+lengths_read_lem-2 : (c : In_ok-lengths)
+    → lengths_under (map_at (at_lengths (goal.at.In_ok-lengths c).After-numbers_under)) ≡ if_there (numbers_of (bytes (at_lengths (goal.at.In_ok-lengths c).After-numbers_under)) c.numbers_under.result) (each_of read_natural)
 unfolding read_natural
 lengths_read_lem-2 c =
-    let a = at_lengths (goal.at.In-Numbers c).After-numbers_under in
-    let items = read_told (some []) byte_view.items lengths_key (map_at a) a.args.places.lengths a.requires.1.lengths in
+    let a = at_lengths (goal.at.In_ok-lengths c).After-numbers_under in
+    let items = read_told (Some []) byte_view.items lengths_key (map_at a) a.args.places.lengths a.requires.1.lengths in
     list_under read_natural (byte_view.under lengths_key (map_at a)) ∙ ap (λ o. if_there o (each_of read_natural)) (items ∙ sym c.numbers_under.ensures.result_value)
 
-lengths : (c : In-Numbers)
-    → lengths_under (map_at (at_lengths (goal.at.In-Numbers c).After-numbers_under))
-    ≡ each_of read_natural (items_in (bytes (at_lengths (goal.at.In-Numbers c).After-numbers_under)) c.in-Numbers.lengths)
+lengths : (c : In_ok-lengths)
+    → lengths_under (map_at (at_lengths (goal.at.In_ok-lengths c).After-numbers_under))
+    ≡ each_of read_natural (items_in (bytes (at_lengths (goal.at.In_ok-lengths c).After-numbers_under)) c.in_ok-lengths.lengths)
 lengths c =
     let d = c in
-    lengths_read_lem-2 d ∙ ap (λ r. if_there (numbers_of (bytes (at_lengths (goal.at.In-Numbers c).After-numbers_under)) r) (each_of read_natural)) c.in-Numbers.is
+    lengths_read_lem-2 d ∙ ap (λ r. if_there (numbers_of (bytes (at_lengths (goal.at.In_ok-lengths c).After-numbers_under)) r) (each_of read_natural)) c.in_ok-lengths.was
 
 pub numbers_under-requires-2 : goal.numbers_under-requires-2
 numbers_under-requires-2 c = let a = at_lengths (goal.at.numbers_under-requires-2 c).After-numbers_under in (a.requires.0, value_at_lem deltas_key _ _ a.requires.1.deltas)
@@ -186,41 +186,41 @@ deltas_read : (c : After-numbers_under-2)
     → deltas_under (map_at (at_deltas c)) ≡ if_there (numbers_of (bytes (at_deltas c)) c.numbers_under-2.result) (each_of read_integer)
 deltas_read c =
     let a = at_deltas c in
-    let items = read_told (some []) byte_view.items deltas_key (map_at a) a.args.places.deltas a.requires.1.deltas in
+    let items = read_told (Some []) byte_view.items deltas_key (map_at a) a.args.places.deltas a.requires.1.deltas in
     list_under read_integer (byte_view.under deltas_key (map_at a)) ∙ ap (λ o. if_there o (each_of read_integer)) (items ∙ sym c.numbers_under-2.ensures.result_value)
 
-pub returns-in_default-numbers_under-2-clause-result_value : goal.returns-in_default-numbers_under-2-clause-result_value
-returns-in_default-numbers_under-2-clause-result_value c =
+pub returns-in_err-deltas-clause-result_value : goal.returns-in_err-deltas-clause-result_value
+returns-in_err-deltas-clause-result_value c =
     let d = c in
     let k = d in
     let l = k in
     let o = l in
-    let missing = deltas_read (goal.at.returns-in_default-numbers_under-2-clause-result_value d).After-numbers_under-2 ∙ ap (λ r. if_there (numbers_of (bytes (at_deltas (goal.at.returns-in_default-numbers_under-2-clause-result_value c).After-numbers_under-2)) r) (each_of read_integer)) c.in_default-numbers_under-2.is in
-    no_deltas_told _ _ _ _ _ (pack (goal.at.returns-in_default-numbers_under-2-clause-result_value o).In-At) (source (goal.at.returns-in_default-numbers_under-2-clause-result_value o).In-Range).range (stored (goal.at.returns-in_default-numbers_under-2-clause-result_value l).In-Range-range_under).range (lengths (goal.at.returns-in_default-numbers_under-2-clause-result_value k).In-Numbers) missing
+    let missing = deltas_read (goal.at.returns-in_err-deltas-clause-result_value d).After-numbers_under-2 ∙ ap (λ r. if_there (numbers_of (bytes (at_deltas (goal.at.returns-in_err-deltas-clause-result_value c).After-numbers_under-2)) r) (each_of read_integer)) c.in_err-deltas.was in
+    rw c.from_residual-in_err-deltas.ensures (no_deltas_told _ _ _ _ _ (pack (goal.at.returns-in_err-deltas-clause-result_value o).In_ok-pack) (source (goal.at.returns-in_err-deltas-clause-result_value o).In_ok-source).range (stored (goal.at.returns-in_err-deltas-clause-result_value l).In_ok-stored).range (lengths (goal.at.returns-in_err-deltas-clause-result_value k).In_ok-lengths) missing)
 
-pub returns-in_default-numbers_under-2-clause-inside : goal.returns-in_default-numbers_under-2-clause-inside
-returns-in_default-numbers_under-2-clause-inside c = none_inside _ _
+pub returns-in_err-deltas-clause-inside : goal.returns-in_err-deltas-clause-inside
+returns-in_err-deltas-clause-inside c = rw c.from_residual-in_err-deltas.ensures (none_inside _ _)
 
-deltas_read-2 : (c : In-Numbers-numbers_under)
-    → deltas_under (map_at (at_deltas (goal.at.In-Numbers-numbers_under c).After-numbers_under-2)) ≡ if_there (numbers_of (bytes (at_deltas (goal.at.In-Numbers-numbers_under c).After-numbers_under-2)) c.numbers_under-2.result) (each_of read_integer)
+deltas_read-2 : (c : In_ok-deltas)
+    → deltas_under (map_at (at_deltas (goal.at.In_ok-deltas c).After-numbers_under-2)) ≡ if_there (numbers_of (bytes (at_deltas (goal.at.In_ok-deltas c).After-numbers_under-2)) c.numbers_under-2.result) (each_of read_integer)
 deltas_read-2 c =
-    let a = at_deltas (goal.at.In-Numbers-numbers_under c).After-numbers_under-2 in
-    let items = read_told (some []) byte_view.items deltas_key (map_at a) a.args.places.deltas a.requires.1.deltas in
+    let a = at_deltas (goal.at.In_ok-deltas c).After-numbers_under-2 in
+    let items = read_told (Some []) byte_view.items deltas_key (map_at a) a.args.places.deltas a.requires.1.deltas in
     list_under read_integer (byte_view.under deltas_key (map_at a)) ∙ ap (λ o. if_there o (each_of read_integer)) (items ∙ sym c.numbers_under-2.ensures.result_value)
 
-deltas : (c : In-Numbers-numbers_under)
-    → deltas_under (map_at (at_deltas (goal.at.In-Numbers-numbers_under c).After-numbers_under-2))
-    ≡ each_of read_integer (items_in (bytes (at_deltas (goal.at.In-Numbers-numbers_under c).After-numbers_under-2)) c.in-Numbers-numbers_under.deltas)
+deltas : (c : In_ok-deltas)
+    → deltas_under (map_at (at_deltas (goal.at.In_ok-deltas c).After-numbers_under-2))
+    ≡ each_of read_integer (items_in (bytes (at_deltas (goal.at.In_ok-deltas c).After-numbers_under-2)) c.in_ok-deltas.deltas)
 deltas c =
     let d = c in
-    deltas_read-2 d ∙ ap (λ r. if_there (numbers_of (bytes (at_deltas (goal.at.In-Numbers-numbers_under c).After-numbers_under-2)) r) (each_of read_integer)) c.in-Numbers-numbers_under.is
+    deltas_read-2 d ∙ ap (λ r. if_there (numbers_of (bytes (at_deltas (goal.at.In_ok-deltas c).After-numbers_under-2)) r) (each_of read_integer)) c.in_ok-deltas.was
 
 -- ---- all of them
 
 pub tested-requires : goal.tested-requires
 tested-requires c =
     let k = c in
-    k.numbers_under.ensures.inside.whole _ k.in-Numbers.is
+    k.numbers_under.ensures.inside.whole _ k.in_ok-lengths.was
 
 pub returns-clause-result_value : goal.returns-clause-result_value
 returns-clause-result_value c =
@@ -230,7 +230,7 @@ returns-clause-result_value c =
     let o = n in
     let p = o in
     let a = at_pack (goal.at.returns-clause-result_value c).After-text_at in
-    let told = entry_told_lem (bytes a) (map_at a) _ a.args.places.repeated _ _ (pack (goal.at.returns-clause-result_value p).In-At) (source (goal.at.returns-clause-result_value o).In-Range) (stored (goal.at.returns-clause-result_value n).In-Range-range_under) (lengths (goal.at.returns-clause-result_value l).In-Numbers) (deltas (goal.at.returns-clause-result_value k).In-Numbers-numbers_under) a.requires.1.repeated _ a.requires.1.size in
+    let told = entry_told_lem (bytes a) (map_at a) _ a.args.places.repeated _ _ (pack (goal.at.returns-clause-result_value p).In_ok-pack) (source (goal.at.returns-clause-result_value o).In_ok-source) (stored (goal.at.returns-clause-result_value n).In_ok-stored) (lengths (goal.at.returns-clause-result_value l).In_ok-lengths) (deltas (goal.at.returns-clause-result_value k).In_ok-deltas) a.requires.1.repeated _ a.requires.1.size in
     c.tested.ensures.result_value ∙ told
 
 pub returns-clause-inside : goal.returns-clause-inside
@@ -241,11 +241,11 @@ returns-clause-inside c =
     let o = n in
     let p = o in
     let a = at_pack (goal.at.returns-clause-inside c).After-text_at in
-    let place = sym (ap place_of p.in-At.is) ∙ place_read (goal.at.returns-clause-inside p).After-text_at in
+    let place = sym (p.in_ok-pack.was) ∙ place_read (goal.at.returns-clause-inside p).After-text_at in
     let lengths-placed =
     numbers_placed lengths_key (bytes a) a.args.at a.args.places.lengths a.requires.1.lengths _ l.numbers_under.ensures.place _
-    l.in-Numbers.is in
+    l.in_ok-lengths.was in
     let deltas-placed =
     numbers_placed deltas_key (bytes a) a.args.at a.args.places.deltas a.requires.1.deltas _ k.numbers_under-2.ensures.place _
-    k.in-Numbers-numbers_under.is in
+    k.in_ok-deltas.was in
     entry_inside _ _ _ _ c.tested.ensures.pack place lengths-placed deltas-placed

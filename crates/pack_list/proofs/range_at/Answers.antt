@@ -1,10 +1,9 @@
 -- `pack_list::range_at` meets its contract: its two numbers in turn, 0 where one is missing.
 use mathlib.Core.List.{List}
-use mathlib.Core.Option.{none, some}
+use Rattle.std.specs.Prelude.{None, Some}
 use mathlib.Core.Path.{◌≡◌, refl, ap, subst, ◌∙◌}
 use Prim.Native.Nat.{ℕ}
 use lib.ListN.{get_or, drop}
-use Rattle.endian.specs.Places.{number_of}
 use Rattle.msgpack.specs.Pairs.{PairsRead}
 use Rattle.msgpack.specs.Views.{byte_view}
 use Rattle.msgpack.specs.declared.Pairs.{Pairs}
@@ -14,7 +13,7 @@ use Rattle.pack_list.proofs.Keys.{range_codes, RangeAt, range_places, no_range_m
 use Rattle.pack_list.proofs.Ranges.{natural_read, range_is, no_range}
 use borrow.Author.Tests.{not-false, not-true}
 use Rattle.pack_list.proofs.range_at.Goals as goal
-use Rattle.pack_list.proofs.range_at.Goals.{After-natural_under, After-natural_under-2, After-read_pairs-pairs, Else-not-pairs, In-Read, Start}
+use Rattle.pack_list.proofs.range_at.Goals.{After-natural_under, After-natural_under-2, After-read_pairs-pairs, Else-not-pairs, In_ok-start, Start}
 
 abbrev map_at : Start → List ℕ
 map_at a = drop a.args.at a.args.part.now
@@ -52,31 +51,32 @@ places_are-2 c =
     let p = c in
     range_places _ _ (pairs_read-3 p) p.requires (not-false _ c.if-not-pairs.false)
 
-start_read : (c : After-natural_under) → natural_under byte_view start_key (map_at (at_start_lem c)) (some 0) ≡ number_of c.natural_under.result
+start_read : (c : After-natural_under) → natural_under byte_view start_key (map_at (at_start_lem c)) (Some 0) ≡ c.natural_under.result
 start_read c =
     let e = c in
     natural_read start_key _ _ (get_or (told (goal.at.After-natural_under c).Else-not-pairs).places 0 0) _ (places_are-2 e).start e.from-map.ensures.result_value c.natural_under.ensures
 
-pub returns-in_default : goal.returns-in_default
-returns-in_default c = range_is _ none _ _ (start_read (goal.at.returns-in_default c).After-natural_under ∙ ap number_of c.in_default.is) refl refl
+pub returns-in_err-start : goal.returns-in_err-start
+returns-in_err-start c =
+    rw c.from_residual.ensures (range_is _ None _ _ (start_read (goal.at.returns-in_err-start c).After-natural_under ∙ c.in_err-start.was) refl refl)
 
-pairs_read-4 : (c : In-Read) → PairsRead (map_at (goal.at.In-Read c).Start) range_codes c.read_pairs-pairs.result
+pairs_read-4 : (c : In_ok-start) → PairsRead (map_at (goal.at.In_ok-start c).Start) range_codes c.read_pairs-pairs.result
 pairs_read-4 c = subst (λ (m : List ℕ). PairsRead m range_codes c.read_pairs-pairs.result) c.from-map.ensures.result_value c.read_pairs-pairs.ensures
 
-places_are-3 : (c : In-Read)
-    → RangeAt (map_at (goal.at.In-Read c).Start) (told (goal.at.In-Read c).Else-not-pairs).places (told (goal.at.In-Read c).Else-not-pairs).repeated
+places_are-3 : (c : In_ok-start)
+    → RangeAt (map_at (goal.at.In_ok-start c).Start) (told (goal.at.In_ok-start c).Else-not-pairs).places (told (goal.at.In_ok-start c).Else-not-pairs).repeated
 places_are-3 c =
     let p = c in
     range_places _ _ (pairs_read-4 p) p.requires (not-false _ c.if-not-pairs.false)
 
-start_read-2 : (c : In-Read) → natural_under byte_view start_key (map_at (at_start_lem (goal.at.In-Read c).After-natural_under)) (some 0) ≡ number_of c.natural_under.result
+start_read-2 : (c : In_ok-start) → natural_under byte_view start_key (map_at (at_start_lem (goal.at.In_ok-start c).After-natural_under)) (Some 0) ≡ c.natural_under.result
 start_read-2 c =
     let e = c in
-    natural_read start_key _ _ (get_or (told (goal.at.In-Read c).Else-not-pairs).places 0 0) _ (places_are-3 e).start e.from-map.ensures.result_value c.natural_under.ensures
+    natural_read start_key _ _ (get_or (told (goal.at.In_ok-start c).Else-not-pairs).places 0 0) _ (places_are-3 e).start e.from-map.ensures.result_value c.natural_under.ensures
 
-start : (c : In-Read)
-    → natural_under byte_view start_key (map_at (at_start_lem (goal.at.In-Read c).After-natural_under)) (some 0) ≡ some c.in-Read.start
-start c = start_read-2 c ∙ ap number_of c.in-Read.is
+start : (c : In_ok-start)
+    → natural_under byte_view start_key (map_at (at_start_lem (goal.at.In_ok-start c).After-natural_under)) (Some 0) ≡ Some c.in_ok-start.start
+start c = start_read-2 c ∙ c.in_ok-start.was
 
 pairs_read-5 : (c : After-natural_under-2) → PairsRead (map_at (goal.at.After-natural_under-2 c).Start) range_codes c.read_pairs-pairs.result
 pairs_read-5 c = subst (λ (m : List ℕ). PairsRead m range_codes c.read_pairs-pairs.result) c.from-map.ensures.result_value c.read_pairs-pairs.ensures
@@ -88,19 +88,20 @@ places_are-4 c =
     range_places _ _ (pairs_read-5 p) p.requires (not-false _ c.if-not-pairs.false)
 
 length_read_lem : (c : After-natural_under-2)
-    → natural_under byte_view length_key (map_at (at_start_lem (goal.at.After-natural_under-2 c).After-natural_under)) (some 0) ≡ number_of c.natural_under-2.result
+    → natural_under byte_view length_key (map_at (at_start_lem (goal.at.After-natural_under-2 c).After-natural_under)) (Some 0) ≡ c.natural_under-2.result
 length_read_lem c =
     let e = c in
     natural_read length_key _ _ (get_or (told (goal.at.After-natural_under-2 c).Else-not-pairs).places 1 0) _ (places_are-4 e).size e.from-map.ensures.result_value c.natural_under-2.ensures
 
-pub returns-in_default-natural_under : goal.returns-in_default-natural_under
-returns-in_default-natural_under c =
+pub returns-in_err-len : goal.returns-in_err-len
+returns-in_err-len c =
     let l = c in
-    range_is _ (some _) none _ (start (goal.at.returns-in_default-natural_under l).In-Read) (length_read_lem (goal.at.returns-in_default-natural_under l).After-natural_under-2 ∙ ap number_of c.in_default-natural_under.is) refl
+    rw c.from_residual-in_err-len.ensures
+    (range_is _ (Some _) None _ (start (goal.at.returns-in_err-len l).In_ok-start) (length_read_lem (goal.at.returns-in_err-len l).After-natural_under-2 ∙ c.in_err-len.was) refl)
 
 pub returns : goal.returns
 returns c =
     let k = c in
     let l = k in
     let e = l in
-    range_is _ (some _) (some _) _ (start (goal.at.returns l).In-Read) (length_read_lem (goal.at.returns l).After-natural_under-2 ∙ ap number_of k.in-Read-natural_under.is) (places_are (goal.at.returns e).Else-not-pairs).repeats
+    range_is _ (Some _) (Some _) _ (start (goal.at.returns l).In_ok-start) (length_read_lem (goal.at.returns l).After-natural_under-2 ∙ k.in_ok-len.was) (places_are (goal.at.returns e).Else-not-pairs).repeats

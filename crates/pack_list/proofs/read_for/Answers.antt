@@ -2,7 +2,7 @@
 use Prim.Native.Nat.{ℕ}
 use mathlib.Core.Bool.{true}
 use mathlib.Core.List.{List, []}
-use mathlib.Core.Option.{none, some}
+use Rattle.std.specs.Prelude.{None, Some}
 use mathlib.Core.Path.{◌≡◌, refl, sym, ap, ◌∙◌}
 use native.Mathlib.Omega.{arith}
 use lib.ListN.{get_or, drop}
@@ -20,7 +20,7 @@ use Rattle.pack_list.proofs.Surveys.{all_surveyed, not_surveyed}
 use Rattle.pack_list.proofs.Listing.{entries_broken, entries_told, items_told, repeats_told, refused_for, not_whole, no_entries_lem, list_for}
 use borrow.Author.Tests.{not-false, not-true}
 use Rattle.pack_list.proofs.read_for.Goals as goal
-use Rattle.pack_list.proofs.read_for.Goals.{After-fills, After-places-1, After-read_block_beside-both, Else-not-fills, In-Numbers}
+use Rattle.pack_list.proofs.read_for.Goals.{After-fills, After-places-1, After-read_block_beside-both, Else-not-fills, In-Some}
 
 abbrev bytes : After-read_block_beside-both → List ℕ
 bytes c = c.args.part.now
@@ -78,46 +78,46 @@ returns-in_default c =
     let n = c in
     let p = n in
     let nothing = sym (ap (numbers_of (bytes (pairs_at (goal.at.returns-in_default c).After-places-1))) c.in_default.is) ∙ n.numbers_under.ensures.result_value in
-    refused_for _ _ _ (no_entries_lem _ (whole_part (in_whole (goal.at.returns-in_default c).After-places-1)) (entries_told _ (place_at (goal.at.returns-in_default c).After-places-1) (place (goal.at.returns-in_default p).After-places-1) none nothing))
+    refused_for _ _ _ (no_entries_lem _ (whole_part (in_whole (goal.at.returns-in_default c).After-places-1)) (entries_told _ (place_at (goal.at.returns-in_default c).After-places-1) (place (goal.at.returns-in_default p).After-places-1) None nothing))
 
 pub survey_entries-requires : goal.survey_entries-requires
-survey_entries-requires c = let n = c in n.numbers_under.ensures.inside.whole _ c.in-Numbers.is
+survey_entries-requires c = let n = c in n.numbers_under.ensures.inside.whole _ c.in-Some.is
 
 -- the items that the entries are
-abbrev places_at : In-Numbers → After-places-1
-places_at c = (goal.at.In-Numbers c).After-places-1
+abbrev places_at : In-Some → After-places-1
+places_at c = (goal.at.In-Some c).After-places-1
 
-abbrev part_at : In-Numbers → List ℕ
+abbrev part_at : In-Some → List ℕ
 part_at c = bytes (pairs_at (places_at c))
 
-items_are : (c : In-Numbers) → some (items_in (part_at c) c.in-Numbers.entries)
-    ≡ at_place (some []) (λ p. byte_view.items (drop p (drop 0 (part_at c)))) (place_told (place_at (places_at c)))
-items_are c = c.in-Numbers.ensures.result_value
+items_are : (c : In-Some) → Some (items_in (part_at c) c.in-Some.entries)
+    ≡ at_place (Some []) (λ p. byte_view.items (drop p (drop 0 (part_at c)))) (place_told (place_at (places_at c)))
+items_are c = c.in-Some.ensures.result_value
 
-entries_are : (c : In-Numbers)
-    → entries_under byte_view (part_at c) ≡ each_of (entry_at byte_view) (items_in (part_at c) c.in-Numbers.entries)
-entries_are c = entries_told _ (place_at (places_at c)) (place (places_at c)) (some _) (items_are c)
+entries_are : (c : In-Some)
+    → entries_under byte_view (part_at c) ≡ each_of (entry_at byte_view) (items_in (part_at c) c.in-Some.entries)
+entries_are c = entries_told _ (place_at (places_at c)) (place (places_at c)) (Some _) (items_are c)
 
 pub returns-in_default-survey_entries : goal.returns-in_default-survey_entries
 returns-in_default-survey_entries c =
     let v = c in
     let k = v in
     let nothing = v.in_default-survey_entries.ensures.result_value in
-    refused_for _ _ _ (no_entries_lem _ (whole_part (in_whole (places_at (goal.at.returns-in_default-survey_entries c).In-Numbers))) (entries_are (goal.at.returns-in_default-survey_entries k).In-Numbers ∙ not_surveyed _ _ nothing))
+    refused_for _ _ _ (no_entries_lem _ (whole_part (in_whole (places_at (goal.at.returns-in_default-survey_entries c).In-Some))) (entries_are (goal.at.returns-in_default-survey_entries k).In-Some ∙ not_surveyed _ _ nothing))
 
 pub returns : goal.returns
 returns c =
     let o = c in
     let v = o in
     let k = v in
-    let p = places_at (goal.at.returns c).In-Numbers in
+    let p = places_at (goal.at.returns c).In-Some in
     let b = (pairs_at p).read_block_beside-both in
     let n = k.numbers_under in
-    let e = k.in-Numbers.is in
-    let tells = all_surveyed _ _ _ _ o.in-Entries.ensures.result_value in
-    let repeated = repeats_told _ (place_at p) (place p) (some _) (items_are (goal.at.returns k).In-Numbers) in
-    let listed = items_told _ (place_at p) (place p) (some _) (items_are (goal.at.returns k).In-Numbers) in
+    let e = k.in-Some.is in
+    let tells = all_surveyed _ _ _ _ o.in-Some-survey_entries.ensures.result_value in
+    let repeated = repeats_told _ (place_at p) (place p) (Some _) (items_are (goal.at.returns k).In-Some) in
+    let listed = items_told _ (place_at p) (place p) (Some _) (items_are (goal.at.returns k).In-Some) in
     let flag = list_repeats_lem _ _ (pairs_read (pairs_at p)) (whole_item (in_whole p)) in
-    let placed = numbers_placed entries_key (part_at (goal.at.returns c).In-Numbers) 0 (place_at p) (place p) n.result n.ensures.place _ e in
-    list_for _ _ _ b.ensures.block_value b.ensures.inside _ placed (n.ensures.inside.first _ e) (n.ensures.inside.whole _ e) (entries_are (goal.at.returns k).In-Numbers) listed _ _ tells
-    (o.in-Entries.ensures.inside.holder _ _ refl) _ (repeated ∙ rw (flag, tells.repeated)) _ c.list_by.ensures
+    let placed = numbers_placed entries_key (part_at (goal.at.returns c).In-Some) 0 (place_at p) (place p) n.result n.ensures.place _ e in
+    list_for _ _ _ b.ensures.block_value b.ensures.inside _ placed (n.ensures.inside.first _ e) (n.ensures.inside.whole _ e) (entries_are (goal.at.returns k).In-Some) listed _ _ tells
+    (o.in-Some-survey_entries.ensures.inside.holder _ _ refl) _ (repeated ∙ rw (flag, tells.repeated)) _ c.list_by.ensures

@@ -1,4 +1,4 @@
--- `pack_list::with_gain` meets its contract: nothing is added before it is compared.
+-- `pack_list::with_gain` meets its contract: the sum is there exactly where it fits.
 use mathlib.Core.Logic.{inl}
 use mathlib.Core.Path.{refl, sym}
 use native.Mathlib.Nat.{add-zero}
@@ -6,8 +6,8 @@ use native.Mathlib.Omega.{arith}
 use Rattle.pack_list.proofs.Summing.{with_room, without_room}
 use Rattle.pack_list.proofs.with_gain.Goals as goal
 
-pub returns-then-n-gains : goal.returns-then-n-gains
-returns-then-n-gains c = with_room _ _ _ c.if-n-gains.true (omega arith) refl (sym (add-zero _)) refl
+pub returns-in-Some : goal.returns-in-Some
+returns-in-Some c = let h = c.in-Some.ensures in with_room _ _ _ (omega (arith, h.0)) (omega arith) h.1 (sym (add-zero _)) refl
 
-pub returns : goal.returns
-returns c = without_room _ _ _ (inl c.if-n-gains.false) refl
+pub returns-in-None : goal.returns-in-None
+returns-in-None c = let h = c.in-None.ensures in without_room _ _ _ (inl (omega (arith, h))) refl

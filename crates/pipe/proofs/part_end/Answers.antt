@@ -15,4 +15,4 @@ pub returns : goal.returns
 unfolding part_end
 returns c =
     let a = c.args in
-    rw (lt-leb (length a.lengths.now) a.k c.if-lengths-k.false) (ap (λ (n : ℕ). a.at + n) c.least.ensures)
+    rw (lt-leb (length a.lengths.now) a.k c.if-lengths-k.false) (ap (λ (n : ℕ). a.at + n) c.min.ensures)

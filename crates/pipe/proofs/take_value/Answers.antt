@@ -14,23 +14,23 @@ use Rattle.pipe.proofs.take_value.Goals.{Start}
 long : (s : Start) → length s.args.state.header ≡ 32
 long s = search rules
 
-pub overflow_sub-fields : goal.overflow_sub-fields
-overflow_sub-fields c =
+pub overflow_sub-left : goal.overflow_sub-left
+overflow_sub-left c =
     let s = c in
     let state = s.args.state in
     let fields = c.fields in
-    omega (arith, s.requires.count_bound.0, length_is (record_at state (in_header [])) state.header (long (goal.at.overflow_sub-fields s).Start) fields.result fields.ensures (hashing_of state.hash))
+    omega (arith, s.requires.count_bound.0, length_is (record_at state (in_header [])) state.header (long (goal.at.overflow_sub-left s).Start) fields.result fields.ensures (hashing_of state.hash))
 
-pub returns-then-start-count : goal.returns-then-start-count
+pub returns-then-state-count : goal.returns-then-state-count
 unfolding hashing_of
-returns-then-start-count c =
+returns-then-state-count c =
     let s = c in
     let state = s.args.state in
     let fields = c.fields in
-    let least = c.least-n in
+    let least = c.min-n in
     c.refuse.ensures
-    ∙ value_refuses (record_at state (in_header [])) state.header (long (goal.at.returns-then-start-count s).Start) fields.result fields.ensures (hashing_of state.hash)
-    s.args.part.now s.args.taken least.result least.ensures s.requires.count_bound.0 s.requires.count_bound.1 c.if-start-count.true
+    ∙ value_refuses (record_at state (in_header [])) state.header (long (goal.at.returns-then-state-count s).Start) fields.result fields.ensures (hashing_of state.hash)
+    s.args.part.now s.args.taken least.result least.ensures s.requires.count_bound.0 s.requires.count_bound.1 c.if-state-count.true
 
 pub settle-requires : goal.settle-requires
 unfolding hashing_of
@@ -38,11 +38,11 @@ settle-requires c =
     let s = c in
     let state = s.args.state in
     let fields = c.fields in
-    let least = c.least-n in
+    let least = c.min-n in
     let reached = value_reached (record_at state (in_header [])) state.header (long (goal.at.settle-requires s).Start) fields.result fields.ensures (hashing_of state.hash)
-    s.args.part.now s.args.taken least.result least.ensures s.requires.count_bound.0 s.requires.count_bound.1 c.if-start-count.false
-    (hashing_of c.update-hash.result) c.update-hash.ensures in
-    (omega (arith, reached, s.requires.count_bound.1, c.if-start-count.false), s.requires.records_le_start.0)
+    s.args.part.now s.args.taken least.result least.ensures s.requires.count_bound.0 s.requires.count_bound.1 c.if-state-count.false
+    (hashing_of c.update.result) c.update.ensures in
+    (omega (arith, reached, s.requires.count_bound.1, c.if-state-count.false), s.requires.records_le_start.0)
 
 pub returns : goal.returns
 unfolding hashing_of
@@ -50,8 +50,8 @@ returns c =
     let s = c in
     let state = s.args.state in
     let fields = c.fields in
-    let least = c.least-n in
+    let least = c.min-n in
     c.settle.ensures
     ∙ value_settles (record_at state (in_header [])) state.header (long (goal.at.returns s).Start) fields.result fields.ensures (hashing_of state.hash)
-    s.args.part.now s.args.taken least.result least.ensures s.requires.count_bound.0 s.requires.count_bound.1 c.if-start-count.false
-    (hashing_of c.update-hash.result) c.update-hash.ensures
+    s.args.part.now s.args.taken least.result least.ensures s.requires.count_bound.0 s.requires.count_bound.1 c.if-state-count.false
+    (hashing_of c.update.result) c.update.ensures

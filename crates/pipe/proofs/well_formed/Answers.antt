@@ -15,10 +15,10 @@ use Rattle.pipe.proofs.well_formed.Goals.{After-fields, Else-fields-count, Start
 long : (s : Start) → length s.args.state.header ≡ 32
 long s = search rules
 
-pub returns-then-held-ge-LENGTH : goal.returns-then-held-ge-LENGTH
-returns-then-held-ge-LENGTH c =
+pub returns-then-state-ge-LENGTH : goal.returns-then-state-ge-LENGTH
+returns-then-state-ge-LENGTH c =
     let s = c in
-    header_unfit s.args.state c.in-Header.is (long (goal.at.returns-then-held-ge-LENGTH s).Start) c.if-held-ge-LENGTH.true
+    header_unfit s.args.state c.in-Header.is (long (goal.at.returns-then-state-ge-LENGTH s).Start) c.if-state-ge-LENGTH.true
 
 long-2 : (s : After-fields) → length s.args.state.header ≡ 32
 long-2 s = search rules
@@ -60,10 +60,10 @@ pub returns-then-number-gt8 : goal.returns-then-number-gt8
 unfolding fits
 returns-then-number-gt8 c = rw (c.in-Refused.is, lt-leb c.in-Refused.number 8 (omega arith), le-leb 1 c.in-Refused.number (omega arith))
 
-pub returns-else-held-ge-LENGTH : goal.returns-else-held-ge-LENGTH
-returns-else-held-ge-LENGTH c =
+pub returns-else-state-ge-LENGTH : goal.returns-else-state-ge-LENGTH
+returns-else-state-ge-LENGTH c =
     let s = c in
-    c.in_range.ensures ∙ header_fit s.args.state c.in-Header.is (long (goal.at.returns-else-held-ge-LENGTH s).Start) c.if-held-ge-LENGTH.false
+    c.in_range.ensures ∙ header_fit s.args.state c.in-Header.is (long (goal.at.returns-else-state-ge-LENGTH s).Start) c.if-state-ge-LENGTH.false
 
 pub returns-else-count-gt-LIMIT : goal.returns-else-count-gt-LIMIT
 returns-else-count-gt-LIMIT c =

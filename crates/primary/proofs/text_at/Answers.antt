@@ -1,55 +1,25 @@
 -- `primary::text_at` meets its contract: what stands at the front of the rest of the part stands at that place of the part.
-use Prim.Native.Nat.{◌+◌}
-use mathlib.Core.Option.{some}
-use mathlib.Core.Path.{◌≡◌, ap, ◌∙◌}
+use Rattle.std.specs.Prelude.{Some}
+use mathlib.Core.Path.{◌≡◌, sym, ap, ◌∙◌}
 use native.Mathlib.Omega.{arith}
-use lib.ListN.{take, drop}
-use Rattle.slices.specs.Places.{Inside}
-use Rattle.msgpack.specs.Readers.{part, read_text}
-use Rattle.msgpack.specs.Views.{text_at}
-use Rattle.primary.specs.Answers.{placed_at}
-use Rattle.primary.proofs.Places.{text_inside, no_text, text_found, text_ends, text_missing}
+use lib.ListN.{drop}
+use Rattle.msgpack.specs.Readers.{part, part_of, read_text}
+use Rattle.primary.proofs.Places.{text_inside, text_found, text_ends, text_missing}
 use Rattle.primary.proofs.text_at.Goals as goal
-use Rattle.primary.proofs.text_at.Goals.{In-Part}
+use Rattle.primary.proofs.text_at.Goals.{In_ok-text}
 
-text_read : (c : In-Part)
-    → some (part c.in-Part.start c.in-Part.len) ≡ read_text (drop c.args.at c.args.part.now)
-text_read c =
-    let d = c in
-    d.in-Part.ensures.result_value ∙ ap read_text d.from.ensures.result_value
+text_read : (c : In_ok-text) → Some (part c.in_ok-text.text.start c.in_ok-text.text.len) ≡ read_text (drop c.args.at c.args.part.now)
+text_read c = ap part_of (sym c.in_ok-text.was) ∙ c.read_text.ensures.result_value ∙ ap read_text c.from.ensures.result_value
 
-text_told : (c : In-Part)
-    → (some (take c.in-Part.len (drop (c.args.at + c.in-Part.start) c.args.part.now)) ≡ text_at (drop c.args.at c.args.part.now))
-    × Inside c.args.part.now (record { start = c.args.at + c.in-Part.start; len = c.in-Part.len })
-text_told c =
-    let e = text_read c in
-    (text_found _ _ _ _ e, text_ends _ _ _ _ e)
+pub returns-in_err-text-clause-result_value : goal.returns-in_err-text-clause-result_value
+returns-in_err-text-clause-result_value c =
+    rw c.from_residual.ensures (text_missing c.args.part.now c.args.at (ap part_of (sym c.in_err-text.was) ∙ c.read_text.ensures.result_value ∙ ap read_text c.from.ensures.result_value))
 
 pub overflow_add-result : goal.overflow_add-result
-overflow_add-result c = omega (arith, (text_told c).1.end)
+overflow_add-result c = omega (arith, (text_ends c.args.part.now c.args.at _ _ (text_read (goal.at.overflow_add-result c).In_ok-text)).end)
 
-pub returns-in-Part-clause-result_value : goal.returns-in-Part-clause-result_value
-returns-in-Part-clause-result_value c = (text_told c).0
+pub returns-clause-result_value : goal.returns-clause-result_value
+returns-clause-result_value c = text_found _ _ _ _ (text_read (goal.at.returns-clause-result_value c).In_ok-text)
 
-pub returns-in-Part-clause-inside : goal.returns-in-Part-clause-inside
-returns-in-Part-clause-inside c = text_inside _ _ (text_told c).1
-
-pub returns-in-Part-clause-place : goal.returns-in-Part-clause-place
-returns-in-Part-clause-place c = ap (placed_at c.args.at) (text_read c)
-
-pub returns-in-Missing-clause-result_value : goal.returns-in-Missing-clause-result_value
-returns-in-Missing-clause-result_value c =
-    let d = c in
-    let a = d.args in
-    let e = d.in-Missing.ensures.result_value ∙ ap read_text d.from.ensures.result_value in
-    text_missing a.part.now a.at e
-
-pub returns-in-Missing-clause-inside : goal.returns-in-Missing-clause-inside
-returns-in-Missing-clause-inside c = no_text _
-
-pub returns-in-Missing-clause-place : goal.returns-in-Missing-clause-place
-returns-in-Missing-clause-place c =
-    let d = c in
-    let a = d.args in
-    let e = d.in-Missing.ensures.result_value ∙ ap read_text d.from.ensures.result_value in
-    ap (placed_at a.at) e
+pub returns-clause-inside : goal.returns-clause-inside
+returns-clause-inside c = text_inside _ _ (text_ends c.args.part.now c.args.at _ _ (text_read (goal.at.returns-clause-inside c).In_ok-text))

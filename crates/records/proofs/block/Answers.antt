@@ -1,24 +1,17 @@
 -- `records::block` meets its contract: what is read of the part, as the contents of a block.
-use mathlib.Core.Path.{sym, ap, ◌∙◌}
-use Rattle.primary.specs.Answers.{block_of}
+use mathlib.Core.Path.{ap, refl}
+use Rattle.std.proofs.lemmas.Result.{err_from_is_err_and}
 use Rattle.records.specs.Record.{of_block}
-use Rattle.records.proofs.Places.{block_inside, none_inside}
+use Rattle.records.proofs.Places.{block_inside}
 use Rattle.records.proofs.block.Goals as goal
 
-pub returns-in-Read-clause-result_value : goal.returns-in-Read-clause-result_value
-returns-in-Read-clause-result_value c =
-    let answer = c.read_block.ensures in
-    let given = c.in-Read.is in
-    ap of_block (sym (ap (block_of _) given) ∙ answer.result_value)
+pub returns-clause-result_value : goal.returns-clause-result_value
+returns-clause-result_value c = ap of_block c.in_ok-t.ensures.result_value
 
-pub returns-in-Read-clause-inside : goal.returns-in-Read-clause-inside
-returns-in-Read-clause-inside c =
-    let answer = c.read_block.ensures in
-    let given = c.in-Read.is in
-    block_inside _ _ (answer.inside.identifier _ given)
+pub returns-clause-inside : goal.returns-clause-inside
+returns-clause-inside c = block_inside _ _ (c.in_ok-t.ensures.inside.identifier _ refl)
 
-pub returns-in-Fault-clause-result_value : goal.returns-in-Fault-clause-result_value
-returns-in-Fault-clause-result_value c = ap of_block (c.in-Fault.ensures.result_value)
-
-pub returns-in-Fault-clause-inside : goal.returns-in-Fault-clause-inside
-returns-in-Fault-clause-inside c = none_inside _ _
+pub returns-in_err-t-clause-result_value : goal.returns-in_err-t-clause-result_value
+returns-in_err-t-clause-result_value c =
+    let p = err_from_is_err_and c.from_residual.result c.from_residual.ensures.1 in
+    rw (p.1, p.2) (ap of_block c.in_err-t.ensures.result_value)

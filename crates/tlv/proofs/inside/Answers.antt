@@ -1,24 +1,12 @@
--- `tlv::inside` meets its contract. The tests subtract where the definition adds.
-use borrow.Author.Tests.{lt-leb, le-leb}
-use Prim.Native.Nat.{◌+◌}
-use native.Mathlib.Omega.{arith}
+-- `tlv::inside` meets its contract: the header lies within, and then the value.
+use mathlib.Core.Path.{sym, ◌∙◌}
 use Rattle.tlv.specs.Passing.{inside}
 use Rattle.tlv.proofs.inside.Goals as goal
 
-pub returns-then-len-lt-LENGTH : goal.returns-then-len-lt-LENGTH
+pub returns-then-lies : goal.returns-then-lies
 unfolding inside
-returns-then-len-lt-LENGTH c =
-    let a = c.args in
-    rw (lt-leb (a.at + 32) a.len (omega arith))
+returns-then-lies c = rw (sym c.lies.ensures ∙ c.if-lies.true) c.value_fits.ensures
 
-pub returns-then-len-at : goal.returns-then-len-at
+pub returns-else-lies : goal.returns-else-lies
 unfolding inside
-returns-then-len-at c =
-    let a = c.args in
-    rw (lt-leb (a.at + 32) a.len (omega arith))
-
-pub returns : goal.returns
-unfolding inside
-returns c =
-    let a = c.args in
-    rw (le-leb (a.at + 32) a.len (omega arith)) c.value_fits.ensures
+returns-else-lies c = rw (sym c.lies.ensures ∙ c.if-lies.false) c.if-lies.false

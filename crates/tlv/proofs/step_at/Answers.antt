@@ -15,4 +15,4 @@ returns-then-pack-at c =
 pub returns : goal.returns
 returns c =
     let a = c.args in
-    c.step_front.ensures ∙ ap step (take_all (length a.pack.now - a.at) (drop a.at a.pack.now) (rw length-drop (omega arith)))
+    c.in_ok-h.ensures ∙ ap step (take_all (length a.pack.now - a.at) (drop a.at a.pack.now) (rw length-drop (omega arith)))

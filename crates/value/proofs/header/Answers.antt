@@ -1,6 +1,6 @@
 -- `value::header` meets its contract, by the place told of `s`.
 use mathlib.Core.Path.{◌≡◌, sym, ap, ◌∙◌}
-use mathlib.Core.Option.{some}
+use Rattle.std.specs.Prelude.{Some}
 use Rattle.slices.specs.Lists.{part_to_end}
 use Rattle.msgpack.specs.Lookup.{found, last_value}
 use Rattle.msgpack.specs.Pairs.{place_told}
@@ -10,10 +10,10 @@ use Rattle.refusals.specs.Limit.{pack_limit}
 use Rattle.value.specs.Header.{secondary_key, header_alone}
 use Rattle.value.proofs.Headers.{not_described, described_alone, described_with}
 use Rattle.value.proofs.header.Goals as goal
-use Rattle.value.proofs.header.Goals.{Else-at-eq0, In-As}
+use Rattle.value.proofs.header.Goals.{Else-at-eq0, In-Some}
 
-alone_read : (c : In-As) → header_alone c.args.map.now ≡ some c.in-As.t
-alone_read c = sym c.in-As.ensures
+alone_read : (c : In-Some) → header_alone c.args.map.now ≡ Some c.in-Some.t
+alone_read c = sym c.in-Some.ensures
 
 pub alone-requires : goal.alone-requires
 alone-requires c = c.requires
@@ -24,7 +24,7 @@ returns-in_default c = rw (not_described pack_limit _ (sym c.in_default.ensures)
 pub returns-then-at-eq0 : goal.returns-then-at-eq0
 returns-then-at-eq0 c =
     let m = c.requires.secondary ∙ ap place_told c.if-at-eq0.true in
-    rw (described_alone pack_limit _ _ (alone_read (goal.at.returns-then-at-eq0 c).In-As) m, m)
+    rw (described_alone pack_limit _ _ (alone_read (goal.at.returns-then-at-eq0 c).In-Some) m, m)
 
 -- where the list stands
 list_found : (c : Else-at-eq0) → last_value secondary_key c.args.map.now ≡ found c.args.places.s
@@ -44,4 +44,4 @@ with_list-requires c =
 pub returns : goal.returns
 returns c =
     let l = list_found (goal.at.returns c).Else-at-eq0 in
-    c.with_list.ensures ∙ rw (part_to_end, described_with pack_limit _ _ (alone_read (goal.at.returns c).In-As) _ l, l)
+    c.with_list.ensures ∙ rw (part_to_end, described_with pack_limit _ _ (alone_read (goal.at.returns c).In-Some) _ l, l)

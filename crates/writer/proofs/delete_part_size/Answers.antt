@@ -15,5 +15,5 @@ pub returns : goal.returns
 returns c =
     let at-identity-size = c in
     let entry = at-identity-size in
-    let i = identity entry.args.ulid.now entry.args.bucket.now entry.args.object.now in
+    let i = identity entry.args.texts.ulid.now entry.args.texts.bucket.now entry.args.texts.object.now in
     (omega (arith, length_delete_part i entry.args.deleteid.now, at-identity-size.identity_size.ensures.0, c.pair_size.ensures.0), omega (arith, at-identity-size.identity_size.ensures.1, c.pair_size.ensures.1))

@@ -25,5 +25,5 @@ returns c =
     let at-pair-size2 = c in
     let at-pair-size = at-pair-size2 in
     let entry = at-pair-size in
-    let i = identity entry.args.ulid.now entry.args.bucket.now entry.args.object.now in
+    let i = identity entry.args.texts.ulid.now entry.args.texts.bucket.now entry.args.texts.object.now in
     (omega (arith, length_identity i, at-pair-size.pair_size.ensures.0, at-pair-size2.pair_size-2.ensures.0, c.pair_size-3.ensures.0), omega (arith, at-pair-size.pair_size.ensures.1, at-pair-size2.pair_size-2.ensures.1, c.pair_size-3.ensures.1))

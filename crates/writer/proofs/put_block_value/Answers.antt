@@ -13,7 +13,7 @@ use Rattle.writer.proofs.put_block_value.Goals.{Start}
 
 -- the identifier handed in
 abbrev of : Start → Identity
-of s = identity s.args.ulid.now s.args.bucket.now s.args.object.now
+of s = identity s.args.texts.ulid.now s.args.texts.bucket.now s.args.texts.object.now
 
 -- up to the primary part
 abbrev header : Start → List ℕ

@@ -15,7 +15,7 @@ use Rattle.writer.proofs.put_delete_part.Goals.{Start}
 
 -- the identifier handed in
 abbrev of : Start → Identity
-of s = identity s.args.ulid.now s.args.bucket.now s.args.object.now
+of s = identity s.args.texts.ulid.now s.args.texts.bucket.now s.args.texts.object.now
 
 -- all but the last pair, and that
 abbrev front : Start → List ℕ

@@ -20,17 +20,17 @@ abbrev head : Start → List ℕ
 head s = map_head s.args.pairs
 
 abbrev bucket : Start → List ℕ
-bucket s = pair bucket_key s.args.bucket.now
+bucket s = pair bucket_key s.args.texts.bucket.now
 
 abbrev object : Start → List ℕ
-object s = pair object_key s.args.object.now
+object s = pair object_key s.args.texts.object.now
 
 abbrev ulid : Start → List ℕ
-ulid s = pair ulid_key s.args.ulid.now
+ulid s = pair ulid_key s.args.texts.ulid.now
 
 -- all but the last, and all but the last two
 names_fit : (s : Start) → s.args.at + length (head s ++ bucket s ++ object s) ≤ length s.args.out.now
-names_fit s = first_fits (head s ++ bucket s ++ object s) (ulid s) (identity_pairs_lem s.args.pairs (identity s.args.ulid.now s.args.bucket.now s.args.object.now)) _ _ s.requires.1
+names_fit s = first_fits (head s ++ bucket s ++ object s) (ulid s) (identity_pairs_lem s.args.pairs (identity s.args.texts.ulid.now s.args.texts.bucket.now s.args.texts.object.now)) _ _ s.requires.1
 
 bucket_fits : (s : Start) → s.args.at + length (head s ++ bucket s) ≤ length s.args.out.now
 bucket_fits s = first_fits (head s ++ bucket s) (object s) refl _ _ (names_fit s)
@@ -39,16 +39,16 @@ abbrev head-2 : After-place-b → List ℕ
 head-2 s = map_head s.args.pairs
 
 abbrev bucket-2 : After-place-b → List ℕ
-bucket-2 s = pair bucket_key s.args.bucket.now
+bucket-2 s = pair bucket_key s.args.texts.bucket.now
 
 abbrev object-2 : After-place-b → List ℕ
-object-2 s = pair object_key s.args.object.now
+object-2 s = pair object_key s.args.texts.object.now
 
 abbrev ulid-2 : After-place-b → List ℕ
-ulid-2 s = pair ulid_key s.args.ulid.now
+ulid-2 s = pair ulid_key s.args.texts.ulid.now
 
 names_fit-2 : (s : After-place-b) → s.args.at + length (head-2 s ++ bucket-2 s ++ object-2 s) ≤ length s.args.out.now
-names_fit-2 s = first_fits (head-2 s ++ bucket-2 s ++ object-2 s) (ulid-2 s) (identity_pairs_lem s.args.pairs (identity s.args.ulid.now s.args.bucket.now s.args.object.now)) _ _ s.requires.1
+names_fit-2 s = first_fits (head-2 s ++ bucket-2 s ++ object-2 s) (ulid-2 s) (identity_pairs_lem s.args.pairs (identity s.args.texts.ulid.now s.args.texts.bucket.now s.args.texts.object.now)) _ _ s.requires.1
 
 bucket_fits-2 : (s : After-place-b) → s.args.at + length (head-2 s ++ bucket-2 s) ≤ length s.args.out.now
 bucket_fits-2 s = first_fits (head-2 s ++ bucket-2 s) (object-2 s) refl _ _ (names_fit-2 s)
@@ -61,16 +61,16 @@ abbrev head-3 : After-put_pair-o → List ℕ
 head-3 s = map_head s.args.pairs
 
 abbrev bucket-3 : After-put_pair-o → List ℕ
-bucket-3 s = pair bucket_key s.args.bucket.now
+bucket-3 s = pair bucket_key s.args.texts.bucket.now
 
 abbrev object-3 : After-put_pair-o → List ℕ
-object-3 s = pair object_key s.args.object.now
+object-3 s = pair object_key s.args.texts.object.now
 
 abbrev ulid-3 : After-put_pair-o → List ℕ
-ulid-3 s = pair ulid_key s.args.ulid.now
+ulid-3 s = pair ulid_key s.args.texts.ulid.now
 
 names_fit-3 : (s : After-put_pair-o) → s.args.at + length (head-3 s ++ bucket-3 s ++ object-3 s) ≤ length s.args.out.now
-names_fit-3 s = first_fits (head-3 s ++ bucket-3 s ++ object-3 s) (ulid-3 s) (identity_pairs_lem s.args.pairs (identity s.args.ulid.now s.args.bucket.now s.args.object.now)) _ _ s.requires.1
+names_fit-3 s = first_fits (head-3 s ++ bucket-3 s ++ object-3 s) (ulid-3 s) (identity_pairs_lem s.args.pairs (identity s.args.texts.ulid.now s.args.texts.bucket.now s.args.texts.object.now)) _ _ s.requires.1
 
 bucket_fits-3 : (s : After-put_pair-o) → s.args.at + length (head-3 s ++ bucket-3 s) ≤ length s.args.out.now
 bucket_fits-3 s = first_fits (head-3 s ++ bucket-3 s) (object-3 s) refl _ _ (names_fit-3 s)
@@ -85,16 +85,16 @@ abbrev head-4 : After-put_pair-v → List ℕ
 head-4 s = map_head s.args.pairs
 
 abbrev bucket-4 : After-put_pair-v → List ℕ
-bucket-4 s = pair bucket_key s.args.bucket.now
+bucket-4 s = pair bucket_key s.args.texts.bucket.now
 
 abbrev object-4 : After-put_pair-v → List ℕ
-object-4 s = pair object_key s.args.object.now
+object-4 s = pair object_key s.args.texts.object.now
 
 abbrev ulid-4 : After-put_pair-v → List ℕ
-ulid-4 s = pair ulid_key s.args.ulid.now
+ulid-4 s = pair ulid_key s.args.texts.ulid.now
 
 names_fit-4 : (s : After-put_pair-v) → s.args.at + length (head-4 s ++ bucket-4 s ++ object-4 s) ≤ length s.args.out.now
-names_fit-4 s = first_fits (head-4 s ++ bucket-4 s ++ object-4 s) (ulid-4 s) (identity_pairs_lem s.args.pairs (identity s.args.ulid.now s.args.bucket.now s.args.object.now)) _ _ s.requires.1
+names_fit-4 s = first_fits (head-4 s ++ bucket-4 s ++ object-4 s) (ulid-4 s) (identity_pairs_lem s.args.pairs (identity s.args.texts.ulid.now s.args.texts.bucket.now s.args.texts.object.now)) _ _ s.requires.1
 
 bucket_fits-4 : (s : After-put_pair-v) → s.args.at + length (head-4 s ++ bucket-4 s) ≤ length s.args.out.now
 bucket_fits-4 s = first_fits (head-4 s ++ bucket-4 s) (object-4 s) refl _ _ (names_fit-4 s)

@@ -14,7 +14,7 @@ use Rattle.writer.proofs.put_version_part.Goals.{Start}
 
 -- the identifier handed in
 abbrev of : Start → Identity
-of s = identity s.args.ulid.now s.args.bucket.now s.args.object.now
+of s = identity s.args.texts.ulid.now s.args.texts.bucket.now s.args.texts.object.now
 
 -- all but the flag of a delete marker
 abbrev front : Start → List ℕ

@@ -1,5 +1,7 @@
 -- The lengths are tested; then the value is written, and the header in front of it.
-use mathlib.Core.Path.{refl}
+use mathlib.Core.Path.{refl, ap, ◌∙◌}
+use Rattle.std.specs.Prelude.{Err}
+use Rattle.std.proofs.lemmas.Result.{err_from_is_err_and}
 use native.Mathlib.Omega.{arith}
 use lib.ListN.{length}
 use Rattle.identifier.specs.Identity.{Identity, identity}
@@ -7,7 +9,6 @@ use Rattle.records.specs.Record.{block_tag}
 use Rattle.writer.specs.Limits.{content_within, too_long}
 use Rattle.writer.specs.Values.{block_value}
 use Rattle.writer.specs.Writing.{block}
-use Rattle.writer.specs.declared.Written.TheVariants.{Short, Inadmissible}
 use Rattle.writer.proofs.Stores.{Tested, stores_nothing, fits, value_fits, stores_record}
 use Rattle.writer.proofs.Fixed.{block_value_size}
 use Rattle.writer.proofs.store_block.Goals as goal
@@ -15,10 +16,10 @@ use Rattle.writer.proofs.store_block.Goals.{After-room, Start}
 
 -- the identifier handed in
 abbrev of : Start → Identity
-of s = identity s.args.ulid.now s.args.bucket.now s.args.object.now
+of s = identity s.args.texts.ulid.now s.args.texts.bucket.now s.args.texts.object.now
 
 abbrev of-2 : After-room → Identity
-of-2 s = identity s.args.ulid.now s.args.bucket.now s.args.object.now
+of-2 s = identity s.args.texts.ulid.now s.args.texts.bucket.now s.args.texts.object.now
 
 -- the lengths that the test of the room was given
 tested : (c : After-room) → Tested c.args.used block_tag (block_value (of-2 c) c.args.content.now) c.args.buf.now c.block_value_size-value.result c.room.result
@@ -32,31 +33,30 @@ returns-then-content-gt-LIMIT c =
     record { told = e; left = rw (← e) refl }
 
 pub overflow_add-start : goal.overflow_add-start
-overflow_add-start c = omega (arith, fits (tested (goal.at.overflow_add-start c).After-room) c.in-Count.is)
+overflow_add-start c = omega (arith, fits (tested (goal.at.overflow_add-start c).After-room) c.in_ok-end.was)
 
 pub put_block_value-requires : goal.put_block_value-requires
 put_block_value-requires c =
     let at_room = c in
     let at-block-part-size = at_room in
     let entry = at-block-part-size in
-    (entry.requires, at-block-part-size.block_part_size-part.ensures.0, at-block-part-size.block_part_size-part.ensures.1, value_fits (tested (goal.at.put_block_value-requires at_room).After-room) c.in-Count.is)
+    (entry.requires, at-block-part-size.block_part_size-part.ensures.0, at-block-part-size.block_part_size-part.ensures.1, value_fits (tested (goal.at.put_block_value-requires at_room).After-room) c.in_ok-end.was)
 
 pub put_header-requires : goal.put_header-requires
 put_header-requires c =
     let at-put-block-value = c in
     let at_end = at-put-block-value in
     let at_room = at_end in
-    omega (arith, fits (tested (goal.at.put_header-requires at_room).After-room) at_end.in-Count.is, at-put-block-value.put_block_value.auto.out)
+    omega (arith, fits (tested (goal.at.put_header-requires at_room).After-room) at_end.in_ok-end.was, at-put-block-value.put_block_value.auto.out)
 
-pub returns-in-Count : goal.returns-in-Count
-returns-in-Count c =
+pub returns : goal.returns
+returns c =
     let at-put-block-value = c in
     let at_end = at-put-block-value in
     let at_room = at_end in
-    stores_record (tested (goal.at.returns-in-Count at_room).After-room) at_end.in-Count.is at-put-block-value.put_block_value.ensures c.put_header.ensures
+    stores_record (tested (goal.at.returns at_room).After-room) at_end.in_ok-end.was at-put-block-value.put_block_value.ensures c.put_header.ensures
 
-pub returns-in-Short : goal.returns-in-Short
-returns-in-Short c = stores_nothing (tested (goal.at.returns-in-Short c).After-room) Short 19 c.in-Short.is refl
-
-pub returns-in-Inadmissible : goal.returns-in-Inadmissible
-returns-in-Inadmissible c = stores_nothing (tested (goal.at.returns-in-Inadmissible c).After-room) Inadmissible 20 c.in-Inadmissible.is refl
+pub returns-in_err-end : goal.returns-in_err-end
+returns-in_err-end c =
+    let p = err_from_is_err_and c.from_residual.result c.from_residual.ensures.1 in
+    stores_nothing (tested (goal.at.returns-in_err-end c).After-room) _ _ c.in_err-end.was (p.1 ∙ ap Err p.2)

@@ -1,12 +1,13 @@
 -- The lengths are tested; then the value is written, and the header in front of it.
-use mathlib.Core.Path.{refl}
+use mathlib.Core.Path.{refl, ap, ◌∙◌}
+use Rattle.std.specs.Prelude.{Err}
+use Rattle.std.proofs.lemmas.Result.{err_from_is_err_and}
 use native.Mathlib.Omega.{arith}
 use borrow.Author.Rules.{rules}
 use lib.ListN.{length}
 use Rattle.writer.specs.Limits.{content_within, too_long}
 use Rattle.writer.specs.Values.{part_value}
 use Rattle.writer.specs.Writing.{version}
-use Rattle.writer.specs.declared.Written.TheVariants.{Short, Inadmissible}
 use Rattle.writer.proofs.Stores.{Tested, stores_nothing, fits, value_fits, stores_record}
 use Rattle.writer.proofs.Fixed.{part_value_size}
 use Rattle.writer.proofs.store_part.Goals as goal
@@ -24,27 +25,26 @@ returns-then-part-gt-LIMIT c =
     record { told = e; left = rw (← e) refl }
 
 pub overflow_add-used : goal.overflow_add-used
-overflow_add-used c = omega (arith, fits (tested (goal.at.overflow_add-used c).After-room) c.in-Count.is)
+overflow_add-used c = omega (arith, fits (tested (goal.at.overflow_add-used c).After-room) c.in_ok-end.was)
 
 pub put_part_value-requires : goal.put_part_value-requires
-put_part_value-requires c = (search rules, value_fits (tested (goal.at.put_part_value-requires c).After-room) c.in-Count.is)
+put_part_value-requires c = (search rules, value_fits (tested (goal.at.put_part_value-requires c).After-room) c.in_ok-end.was)
 
 pub put_header-requires : goal.put_header-requires
 put_header-requires c =
     let at-put-part-value = c in
     let at_end = at-put-part-value in
     let at_room = at_end in
-    omega (arith, fits (tested (goal.at.put_header-requires at_room).After-room) at_end.in-Count.is, at-put-part-value.put_part_value.auto.out)
+    omega (arith, fits (tested (goal.at.put_header-requires at_room).After-room) at_end.in_ok-end.was, at-put-part-value.put_part_value.auto.out)
 
-pub returns-in-Count : goal.returns-in-Count
-returns-in-Count c =
+pub returns : goal.returns
+returns c =
     let at-put-part-value = c in
     let at_end = at-put-part-value in
     let at_room = at_end in
-    stores_record (tested (goal.at.returns-in-Count at_room).After-room) at_end.in-Count.is at-put-part-value.put_part_value.ensures c.put_header.ensures
+    stores_record (tested (goal.at.returns at_room).After-room) at_end.in_ok-end.was at-put-part-value.put_part_value.ensures c.put_header.ensures
 
-pub returns-in-Short : goal.returns-in-Short
-returns-in-Short c = stores_nothing (tested (goal.at.returns-in-Short c).After-room) Short 19 c.in-Short.is refl
-
-pub returns-in-Inadmissible : goal.returns-in-Inadmissible
-returns-in-Inadmissible c = stores_nothing (tested (goal.at.returns-in-Inadmissible c).After-room) Inadmissible 20 c.in-Inadmissible.is refl
+pub returns-in_err-end : goal.returns-in_err-end
+returns-in_err-end c =
+    let p = err_from_is_err_and c.from_residual.result c.from_residual.ensures.1 in
+    stores_nothing (tested (goal.at.returns-in_err-end c).After-room) _ _ c.in_err-end.was (p.1 ∙ ap Err p.2)

@@ -7,7 +7,7 @@ use Rattle.writer.proofs.version_part_size.Goals.{Start}
 
 -- the identifier handed in
 abbrev of : Start → Identity
-of s = identity s.args.ulid.now s.args.bucket.now s.args.object.now
+of s = identity s.args.texts.ulid.now s.args.texts.bucket.now s.args.texts.object.now
 
 pub returns-then-marker : goal.returns-then-marker
 returns-then-marker c =

@@ -1,70 +1,32 @@
--- A struct that is admitted names a valid identifier, and its block is stored.
-use mathlib.Core.Path.{◌≡◌, sym, ◌∙◌}
-use native.Mathlib.Omega.{arith}
-use borrow.Author.Rules.{rules}
-use Rattle.std.proofs.Common.{◌≤◌}
-use lib.ListN.{length}
-use lib.Seq.{length-take-le}
-use Rattle.writer.specs.Writing.{block}
-use Rattle.writer.proofs.Calls.{Named, call_stores, call_unnamed, admitted_named, no_identifier}
+-- The texts of a struct that is admitted are those of a valid identifier, and its block is stored.
+use mathlib.Core.Path.{◌≡◌, refl, sym, ap, ◌∙◌}
+use Rattle.std.specs.Prelude.{Some}
+use Rattle.std.proofs.lemmas.Result.{err_from_is_err_and}
+use Rattle.held_identifier.specs.Held.{named}
+use Rattle.writer.specs.Writing.{block, of_identity}
+use Rattle.writer.proofs.Calls.{Call, call_stores, call_unnamed, no_identifier}
 use Rattle.writer.proofs.write_block.Goals as goal
-use Rattle.writer.proofs.write_block.Goals.{Else-not-is_admitted}
+use Rattle.writer.proofs.write_block.Goals.{After-store_block, After-from_residual}
 
--- the arrays are as long as they are declared
-lengths : (s : Else-not-is_admitted) → (length s.args.id.bucket ≡ 63) × (length s.args.id.object ≡ 1024)
-lengths s = (search rules, search rules)
+stored : (c : After-store_block) → Call c.args.used (of_identity (λ i. block i c.args.content.now) (named c.args.id)) c.args.buf.now c.store_block.result c.store_block.new.buf
+stored c = rw c.in_ok-texts.ensures.0 (call_stores _ _ (block _ c.args.content.now) _ _ c.in_ok-texts.ensures.1 c.store_block.ensures)
 
--- the test has shown what the struct names
-known : (c : Else-not-is_admitted) → Named c.args.id
-known c = admitted_named _ (sym c.is_admitted.ensures ∙ c.if-not-is_admitted.false)
-
--- so its lengths are within the arrays
-within : (c : Else-not-is_admitted) → (c.args.id.bucketlen ≤ length c.args.id.bucket) × (c.args.id.objectlen ≤ length c.args.id.object)
-within c = (omega (arith, (known c).bucket, (lengths c).0), omega (arith, (known c).object, (lengths c).1))
-
-pub returns-then-not-is_admitted-clause-answer : goal.returns-then-not-is_admitted-clause-answer
-returns-then-not-is_admitted-clause-answer c =
-    let d = c.args.content.now in
-    let refuses = sym c.is_admitted.ensures ∙ c.if-not-is_admitted.true in
-    let call = call_unnamed _ _ (λ i. block i d) _ (λ i e. no_identifier _ i refuses e) in
-    call.answer
-
-pub returns-then-not-is_admitted-clause-buffer : goal.returns-then-not-is_admitted-clause-buffer
-returns-then-not-is_admitted-clause-buffer c =
-    let d = c.args.content.now in
-    let refuses = sym c.is_admitted.ensures ∙ c.if-not-is_admitted.true in
-    let call = call_unnamed _ _ (λ i. block i d) _ (λ i e. no_identifier _ i refuses e) in
-    call.buffer
-
-pub slice_bounds-bucket-end : goal.slice_bounds-bucket-end
-slice_bounds-bucket-end c = (within (goal.at.slice_bounds-bucket-end c).Else-not-is_admitted).0
-
-pub slice_bounds-store_block-end-2 : goal.slice_bounds-store_block-end-2
-slice_bounds-store_block-end-2 c = sym (length-take-le _ _ (within (goal.at.slice_bounds-store_block-end-2 c).Else-not-is_admitted).0)
-
-pub slice_bounds-object-end : goal.slice_bounds-object-end
-slice_bounds-object-end c = (within (goal.at.slice_bounds-object-end c).Else-not-is_admitted).1
-
-pub slice_bounds-store_block-end-3 : goal.slice_bounds-store_block-end-3
-slice_bounds-store_block-end-3 c = sym (length-take-le _ _ (within (goal.at.slice_bounds-store_block-end-3 c).Else-not-is_admitted).1)
+nothing : (c : After-from_residual) → Call c.args.used (of_identity (λ i. block i c.args.content.now) (named c.args.id)) c.args.buf.now c.from_residual.result c.args.buf.now
+nothing c =
+    let e = err_from_is_err_and c.from_residual.result c.from_residual.ensures.1 in
+    rw (e.1, e.2, c.in_err-texts.ensures.0) (call_unnamed _ _ (λ i. block i c.args.content.now) _ (λ i f. no_identifier _ i c.in_err-texts.ensures.1 f))
 
 pub store_block-requires : goal.store_block-requires
-store_block-requires c =
-    let at-if1 = c in
-    (known (goal.at.store_block-requires at-if1).Else-not-is_admitted).valid
+store_block-requires c = c.in_ok-texts.ensures.1
 
 pub returns-clause-answer : goal.returns-clause-answer
-returns-clause-answer c =
-    let at-if1 = c in
-    let entry = at-if1 in
-    let n = known (goal.at.returns-clause-answer at-if1).Else-not-is_admitted in
-    let call = call_stores _ _ (block _ entry.args.content.now) _ _ n.valid c.store_block.ensures in
-    rw n.names call.answer
+returns-clause-answer c = (stored (goal.at.returns-clause-answer c).After-store_block).answer
 
 pub returns-clause-buffer : goal.returns-clause-buffer
-returns-clause-buffer c =
-    let at-if1 = c in
-    let entry = at-if1 in
-    let n = known (goal.at.returns-clause-buffer at-if1).Else-not-is_admitted in
-    let call = call_stores _ _ (block _ entry.args.content.now) _ _ n.valid c.store_block.ensures in
-    rw n.names call.buffer
+returns-clause-buffer c = (stored (goal.at.returns-clause-buffer c).After-store_block).buffer
+
+pub returns-in_err-texts-clause-answer : goal.returns-in_err-texts-clause-answer
+returns-in_err-texts-clause-answer c = (nothing c).answer
+
+pub returns-in_err-texts-clause-buffer : goal.returns-in_err-texts-clause-buffer
+returns-in_err-texts-clause-buffer c = (nothing c).buffer

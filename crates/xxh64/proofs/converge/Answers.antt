@@ -10,11 +10,8 @@ returns c =
       c.merge_accumulator-2.ensures,
       c.merge_accumulator-merged.ensures,
       c.merge_accumulator.ensures,
-      c.wrapping_add_u64-sum.ensures.value,
       c.rotl-4.ensures,
-      c.wrapping_add_u64.ensures.value,
       c.rotl-3.ensures,
-      c.wrapping_add_u64-half.ensures.value,
       c.rotl-2.ensures,
       c.rotl.ensures,
     )

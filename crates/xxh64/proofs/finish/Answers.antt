@@ -27,7 +27,6 @@ returns c =
       c.remaining.ensures,
       c.remaining-fours.ensures,
       c.remaining-eights.ensures,
-      c.wrapping_add_u64.ensures.value,
       take-length b.args.rest.now,
       few,
     )
