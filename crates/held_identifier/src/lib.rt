@@ -53,7 +53,7 @@ fn put(out: &mut [u8], at: usize, s: &[u8])
     requires { at + length s.now ≤ length out.old }
     ensures { out.new ≡ overwritten out.old at s.now }
 {
-    out[at..at + s.len()].copy_from_slice(s);
+    let _ = slices::write_bytes(out, at, s);
 }
 
 // A function of its own, so that no proof above it shows the zeros.

@@ -2,19 +2,29 @@
 // value. The work is done on slices; the struct is for holding an identifier past its text.
 #![tactic(auto)]
 
-ghost use Rattle.std.specs.Prelude.{◌≡◌, ◌==◌, length, position};
+ghost use Rattle.std.specs.Prelude.{◌≡◌, ◌==◌, ◌&&◌, leb, length, position};
 ghost use Rattle.std.specs.List.{list_all};
 ghost use Rattle.identifier.specs.Texts.{before, less};
 ghost use Rattle.identifier.specs.Ulid.{is_character, is_ulid};
 ghost use Rattle.identifier.specs.Identity.{slash, sized, is_bucket, is_object, identity, is_valid};
 ghost use Rattle.identifier.specs.Composite.{slash_in};
 
+fn is_between(x: u8, first: u8, last: u8) -> bool
+    ensures { result ≡ (leb first x && leb x last) }
+{
+    (first..=last).contains(&x)
+}
+
 // The digits, and the capitals without I, L, O and U.
 fn is_character(x: u8) -> bool
     ensures { result ≡ is_character x }
 {
-    x.is_ascii_digit()
-        | (x.is_ascii_uppercase() & (x != b'I') & (x != b'L') & (x != b'O') & (x != b'U'))
+    is_between(x, b'0', b'9')
+        | is_between(x, b'A', b'H')
+        | is_between(x, b'J', b'K')
+        | is_between(x, b'M', b'N')
+        | is_between(x, b'P', b'T')
+        | is_between(x, b'V', b'Z')
 }
 
 fn are_characters(s: &[u8]) -> bool

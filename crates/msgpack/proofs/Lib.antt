@@ -4,3 +4,4 @@ mod Updates
 mod Maps
 mod Integers
 mod Forms
+mod Widths

@@ -1,10 +1,10 @@
 -- How passing over goes on: by the head of an item at a place, and item by item through a container.
 use Prim.Native.Nat.{ℕ, zero, suc, ◌+◌, ◌-◌, ◌≤◌, ◌<◌}
-use Rattle.std.specs.Prelude.{List, ◌≡◌, length, drop, Err}
+use Rattle.std.specs.Prelude.{◌%◌, ◌^◌, Bool, true, false, cond, eqb, List, ◌≡◌, length, drop, Err}
 use Rattle.std.proofs.Math.Path.{refl}
 use Rattle.std.proofs.Common.{ap, ◌∙◌, not-suc-le-zero, add_assoc, sub-one, arith, length-drop, drop-drop}
 use Rattle.slices.specs.Logic.{absurd_numbers}
-use Rattle.msgpack.specs.Formats.{unused_kind, array_kind}
+use Rattle.msgpack.specs.Formats.{unused_kind, array_kind, map_kind}
 use Rattle.msgpack.specs.Items.{Head, Passage, whole, cut, too_deep, passage_of, head_of, items_of, beyond, and_then, pass_items, pass_item}
 use Rattle.msgpack.specs.PassingLaws.{head_within, within_container, beyond_whole, beyond_deep, bounded}
 use Rattle.msgpack.specs.declared.Fault.{Fault}
@@ -70,6 +70,14 @@ head_inside at s h e u =
     let w = head_within (drop at s) in
     let size : h.size ≡ (head_of (drop at s)).size = ap (λ (h : Head). h.size) e in
     omega (arith, w.inside, w.begun (λ (k : (head_of (drop at s)).kind ≡ unused_kind). u (ap (λ (h : Head). h.kind) e ∙ k)), length-drop at s)
+
+-- a head counts less, so that its items are told exactly
+pub items_exact : (kind count : ℕ) → count < 2 ^ 33 → items_of kind count % 2 ^ 64 ≡ items_of kind count
+items_exact kind count h = by (eqb kind map_kind)
+  where
+    by : (t : Bool) → cond t (count + count) count % 2 ^ 64 ≡ cond t (count + count) count
+    by true = omega arith
+    by false = omega arith
 
 -- r is what passing over a container's items gave
 pub container : (a at : ℕ) (s : List ℕ) (h : Head) → h ≡ head_of (drop at s) → array_kind ≤ h.kind → 0 < a → (items : ℕ) → items ≡ items_of h.kind h.count → (r : Passage)

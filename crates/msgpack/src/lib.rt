@@ -2,8 +2,8 @@
 // looked up in a map by a text key.
 #![tactic(auto)]
 
-ghost use Rattle.std.specs.Prelude.{◌≡◌, ◌-◌, ◌≤◌, ◌<◌, ◌^◌, eqb, length, drop, get_or};
-ghost use Rattle.msgpack.specs.Formats.{kind_index, integer_kind, array_kind, format_read, format_of};
+ghost use Rattle.std.specs.Prelude.{ℕ, ◌≡◌, ◌-◌, ◌%◌, ◌≤◌, ◌<◌, ◌^◌, eqb, min, length, drop, get_or};
+ghost use Rattle.msgpack.specs.Formats.{kind_index, integer_kind, array_kind, map_kind, format_read, format_of};
 ghost use Rattle.msgpack.specs.Items.{head, head_read, HeadAt, items_of, pass_items, pass_item, number_of, pass_over, passage_of};
 ghost use Rattle.msgpack.specs.Readers.{is_whole, content_at, read_text, read_binary, part_of, part_short, read_boolean, plus, minus, twos_complement, integer_of, read_integer, integer_read, integer_short, count_at, read_array, read_map, counted_of, counted_short};
 ghost use Rattle.msgpack.specs.Short.{fixed_holds, short_width, is_signed, short_front, length_read, count_read, IntegerTold};
@@ -22,6 +22,42 @@ pub enum Kind {
     Extension,
     Array,
     Map,
+}
+
+// A kind, by itself or by its number in the order above. What holds items comes last, and so a number past
+// the kinds is taken for a map's.
+pub trait ToKind {
+    ghost index: { Self → ℕ };
+
+    fn to_kind(self) -> Kind
+        ensures { kind_index result ≡ min (index self) map_kind };
+}
+
+impl ToKind for Kind {
+    ghost index = { kind_index };
+
+    fn to_kind(self) -> Kind {
+        self
+    }
+}
+
+impl ToKind for usize {
+    ghost index = { λ number. number };
+
+    fn to_kind(self) -> Kind {
+        match self {
+            0 => Kind::Unused,
+            1 => Kind::Nil,
+            2 => Kind::Boolean,
+            3 => Kind::Integer,
+            4 => Kind::Float,
+            5 => Kind::Text,
+            6 => Kind::Binary,
+            7 => Kind::Extension,
+            8 => Kind::Array,
+            _ => Kind::Map,
+        }
+    }
 }
 
 // How deep containers may stand in containers.
@@ -144,9 +180,9 @@ pub fn head_at(s: &[u8], at: usize) -> Head
     short_head(Kind::Integer, 0)
 }
 
-// How many items a container holds whose head counts so many.
+// How many items a container holds whose head counts so many, modulo 2^64: no head counts more than 2^33.
 pub fn items_of(kind: Kind, count: usize) -> usize
-    ensures { count < 2 ^ 33 → result ≡ items_of (kind_index kind) count }
+    ensures { result ≡ items_of (kind_index kind) count % 2 ^ 64 }
 {
     if kind == Kind::Map {
         count.wrapping_add(count)
@@ -243,7 +279,13 @@ fn fixed_holds(kind: Kind, n: u64) -> bool
 }
 
 // How many bytes the short form of n has for it behind its first byte.
-pub fn short_width(kind: Kind, n: u64) -> usize
+pub fn short_width<K: ToKind>(kind: K, n: u64) -> usize
+    ensures { result ≡ short_width (K.index kind) (plus n) }
+{
+    width_of(kind.to_kind(), n)
+}
+
+fn width_of(kind: Kind, n: u64) -> usize
     ensures { result ≡ short_width (kind_index kind) (plus n) }
 {
     if fixed_holds(kind, n) {

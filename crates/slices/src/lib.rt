@@ -65,13 +65,23 @@ pub fn lies(len: usize, at: usize, count: usize) -> bool
     count <= len && at <= len - count
 }
 
+// Element by element: `copy_from_slice` would leave a call of memmove in the archive for C.
+fn copy<T: Copy>(out: &mut [T], at: usize, text: &[T])
+    requires { at + length text.now ≤ length out.old }
+    ensures { out.new ≡ overwritten out.old at text.now }
+{
+    for i in 0..text.len() {
+        out[at + i] = text[i];
+    }
+}
+
 // Answers whether the elements were written; where they were not, nothing was.
 pub fn write_bytes<T: Copy>(out: &mut [T], at: usize, text: &[T]) -> bool
     ensures value { result ≡ leb (at + length text.now) (length out.old) }
     ensures out_after { out.new ≡ written_bytes out.old at text.now }
 {
     if lies(out.len(), at, text.len()) {
-        out[at..at + text.len()].copy_from_slice(text);
+        copy(out, at, text);
         true
     } else {
         false

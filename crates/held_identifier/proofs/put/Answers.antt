@@ -1,6 +1,7 @@
--- The part written is the text.
-use Rattle.slices.proofs.Writing.{put_overwrites}
+-- The bytes lie within, so that they are written.
+use mathlib.Core.Path.{◌∙◌}
+use Rattle.slices.specs.Overwriting.{written_within}
 use Rattle.held_identifier.proofs.put.Goals as goal
 
 pub returns : goal.returns
-returns c = let a = c.args in put_overwrites a.out.now a.at a.s.now _ c.copy_from_slice.ensures.after
+returns c = c.write_bytes.ensures.out_after ∙ written_within _ _ _ c.requires

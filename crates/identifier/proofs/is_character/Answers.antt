@@ -4,4 +4,7 @@ use Rattle.identifier.proofs.Ranges.{ranges_are}
 use Rattle.identifier.proofs.is_character.Goals as goal
 
 pub returns : goal.returns
-returns c = rw (c.is_ascii_digit.ensures.value, c.is_ascii_uppercase.ensures.value) (ranges_are c.args.x (search rules))
+returns c =
+    let p = c in
+    rw (p.is_between.ensures, p.is_between-2.ensures, p.is_between-3.ensures, c.is_between-4.ensures, c.is_between-5.ensures, c.is_between-6.ensures)
+    (ranges_are p.args.x (search rules))

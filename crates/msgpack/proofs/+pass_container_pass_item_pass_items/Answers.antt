@@ -6,7 +6,7 @@ use Rattle.msgpack.specs.Items.{head_read, whole, passage_of, beyond}
 use Rattle.msgpack.specs.Formats.{kind_index, unused_kind}
 use Rattle.msgpack.specs.KindLaws.{container_kind, flat_kind, used_kind}
 use Rattle.msgpack.specs.PassingLaws.{too_deep_lem, unused, flat_whole, flat_cut}
-use Rattle.msgpack.specs.Passages.{beyond_fault, fault_behind, fault_first, passed_from, first, onward, none_left, item_inside, head_inside, container}
+use Rattle.msgpack.specs.Passages.{beyond_fault, fault_behind, fault_first, passed_from, first, onward, none_left, item_inside, head_inside, items_exact, container}
 use Rattle.msgpack.proofs.+pass_container_pass_item_pass_items.Goals as goal
 
 -- ---- a container
@@ -22,19 +22,19 @@ pass_container-returns-in_err-n t c =
     let p = err_from_is_err_and c.from_residual.result c.from_residual.ensures.1 in
     let f = c.in_err-n.field-0.0 in
     rw (p.1, p.2)
-    (sym (beyond_fault c.args.h.size f) ∙ container _ _ _ (head_read c.args.h) r.0.is r.1 (omega arith) _ (c.items_of.ensures r.0.small) (passage_of (Err f)) c.in_err-n.ensures)
+    (sym (beyond_fault c.args.h.size f) ∙ container _ _ _ (head_read c.args.h) r.0.is r.1 (omega arith) _ (c.items_of.ensures ∙ items_exact _ _ r.0.small) (passage_of (Err f)) c.in_err-n.ensures)
 
 pub pass_container-overflow_add-result : goal.pass_container-overflow_add-result
 pass_container-overflow_add-result t c =
     let r = c.requires in
     let some : 0 < c.args.allowance = omega arith in
-    let p = container _ _ _ (head_read c.args.h) r.0.is r.1 some _ (c.items_of.ensures r.0.small) (whole c.in_ok-n.n) c.in_ok-n.ensures in
+    let p = container _ _ _ (head_read c.args.h) r.0.is r.1 some _ (c.items_of.ensures ∙ items_exact _ _ r.0.small) (whole c.in_ok-n.n) c.in_ok-n.ensures in
     omega (arith, item_inside _ c.args.at c.args.s.now _ (sym p))
 
 pub pass_container-returns : goal.pass_container-returns
 pass_container-returns t c =
     let r = c.requires in
-    container _ _ _ (head_read c.args.h) r.0.is r.1 (omega arith) _ (c.items_of.ensures r.0.small) (whole c.in_ok-n.n) c.in_ok-n.ensures
+    container _ _ _ (head_read c.args.h) r.0.is r.1 (omega arith) _ (c.items_of.ensures ∙ items_exact _ _ r.0.small) (whole c.in_ok-n.n) c.in_ok-n.ensures
 
 -- ---- an item
 

@@ -5,7 +5,7 @@ use Rattle.msgpack.specs.KindLaws.{same_index}
 use Rattle.msgpack.proofs.items_of.Goals as goal
 
 pub returns-then-eq : goal.returns-then-eq
-returns-then-eq c h = rw (sym (c.if-eq.ensures ∙ same_index c.args.kind Map)) (omega arith)
+returns-then-eq c = rw (sym (c.if-eq.ensures ∙ same_index c.args.kind Map)) (omega arith)
 
 pub returns-else-eq : goal.returns-else-eq
-returns-else-eq c h = rw (sym (c.if-eq.ensures ∙ same_index c.args.kind Map))
+returns-else-eq c = rw (sym (c.if-eq.ensures ∙ same_index c.args.kind Map)) (omega arith)

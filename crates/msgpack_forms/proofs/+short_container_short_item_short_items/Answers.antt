@@ -11,7 +11,7 @@ use borrow.Author.Tests.{eqb-true, eqb-false}
 use Rattle.msgpack.specs.KindLaws.{same_index, container_kind, flat_kind}
 use Rattle.msgpack.specs.declared.Kind.TheVariants.{Unused}
 use Rattle.msgpack.specs.Items.{head_read, whole, passage_of, beyond}
-use Rattle.msgpack.specs.Passages.{beyond_fault, fault_behind, fault_first, passed_from, first, onward, none_left, head_inside}
+use Rattle.msgpack.specs.Passages.{beyond_fault, fault_behind, fault_first, passed_from, first, onward, none_left, head_inside, items_exact}
 use Rattle.msgpack_forms.specs.Items.{Form, form_at, short_item}
 use Rattle.msgpack_forms.specs.ShortLaws.{not_short}
 use Rattle.msgpack_forms.proofs.Places.{short_inside, container, deep_at, unused_at, flat_at, cut_at}
@@ -26,7 +26,7 @@ passed_container : (t : ℕ) (c : short_container-After-short_items t)
     → beyond c.args.h.size (passage_of c.short_items.result) ≡ short_item c.args.allowance (drop c.args.at c.args.s.now)
 passed_container t c =
     let r = c.requires in
-    container _ c.args.at c.args.s.now (head_read c.args.h) r.0.is r.1 r.2 (omega (arith, c.if-allowance-eq0.false)) _ (c.items_of-items.ensures r.0.small) _
+    container _ c.args.at c.args.s.now (head_read c.args.h) r.0.is r.1 r.2 (omega (arith, c.if-allowance-eq0.false)) _ (c.items_of-items.ensures ∙ items_exact _ _ r.0.small) _
     c.short_items.ensures
 
 pub short_container-overflow_add-result : goal.short_container-overflow_add-result
