@@ -151,10 +151,10 @@ pub fn same_identifier(a: Identifier, b: Identifier) -> bool
 pub fn has_name(id: Identifier, bucket: &[u8], object: &[u8]) -> bool
     ensures { result ≡ has_name (named id) bucket.now object.now }
 {
-    let Some(t) = id.texts() else {
+    let Some(held) = id.texts() else {
         return false;
     };
-    slices::same_bytes(t.bucket, bucket) && slices::same_bytes(t.object, object)
+    slices::same_bytes(held.bucket, bucket) && slices::same_bytes(held.object, object)
 }
 
 // Whether the identifier keeps the rules, the range of its lengths included.

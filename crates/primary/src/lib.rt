@@ -238,8 +238,8 @@ fn block_by(part: &[u8], pairs: Pairs) -> Result<Texts, Fault>
     ensures result_value { block_of part.now result ≡ block part.now }
     ensures inside { BlockInside part.now result }
 {
-    let places = map_places(part, pairs)?;
-    let at = places[0];
+    let found = map_places(part, pairs)?;
+    let at = found[0];
     if at == 0 {
         return Err(Fault::NotAsDescribed);
     }
