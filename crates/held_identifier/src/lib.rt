@@ -122,14 +122,18 @@ pub fn from_parts(ulid: &[u8], bucket: &[u8], object: &[u8]) -> Option<Identifie
 pub fn read_composite(text: &[u8]) -> Option<Identifier>
     ensures { result ≡ answered (identity_in text.now) }
 {
-    let slash = identifier::split_composite(text)?;
-    let from = slash + 1;
-    let parts = Texts {
-        ulid: &text[..26],
-        bucket: &text[27..slash],
-        object: &text[from..],
-    };
-    Some(parts.hold())
+    match identifier::split_composite(text) {
+        Some(slash) => {
+            let from = slash + 1;
+            let parts = Texts {
+                ulid: &text[..26],
+                bucket: &text[27..slash],
+                object: &text[from..],
+            };
+            Some(parts.hold())
+        }
+        None => None,
+    }
 }
 
 // Whether the two name the same identifier. The arrays are lent and not copied.
